@@ -1,0 +1,48 @@
+-- Subsets and proper subsets, said by values. Assumes nothing.
+use Prim.Native.Nat.{ℕ, _<_}
+use mathlib.Core.Path.{_≡_, refl, sym, ap, _∙_}
+use mathlib.Core.Logic.{_≢_}
+use mathlib.Core.Bool.{Bool, true, false, not, _&&_}
+use native.Mathlib.Omega.{arith}
+use lib.Bits.{bitAnd, and-le-r}
+use lib.Dec.{eqb}
+use borrow.Author.Tests.{eqb-true, eqb-false, eq-eqb, not-true, not-false}
+use Rattle.sets.specs.Sets.{has, subset, proper}
+use Rattle.sets.proofs.Bools.{and-left, and-right, and-both}
+use Rattle.sets.proofs.Values.{has-and, set-antisym}
+
+pub subset-has : (a b : ℕ) → subset a b ≡ true → (v : ℕ) → has a v ≡ true → has b v ≡ true
+unfolding subset
+subset-has a b e v h = and-right (has a v) (has b v) (sym (has-and a b v) ∙ ap (λ (x : ℕ). has x v) (eqb-true (bitAnd a b) a e) ∙ h)
+
+pub has-subset : (a b : ℕ) → ((v : ℕ) → has a v ≡ true → has b v ≡ true) → subset a b ≡ true
+unfolding subset
+has-subset a b f =
+    eq-eqb (bitAnd a b) a
+    (set-antisym (bitAnd a b) a (λ v h. and-left (has a v) (has b v) (sym (has-and a b v) ∙ h)) (λ v h. has-and a b v ∙ and-both (has a v) (has b v) h (f v h)))
+
+pub subset-refl : (a : ℕ) → subset a a ≡ true
+subset-refl a = has-subset a a (λ v h. h)
+
+pub subset-trans : (a b c : ℕ) → subset a b ≡ true → subset b c ≡ true → subset a c ≡ true
+subset-trans a b c p q = has-subset a c (λ v h. subset-has b c q v (subset-has a b p v h))
+
+pub subset-antisym : (a b : ℕ) → subset a b ≡ true → subset b a ≡ true → a ≡ b
+subset-antisym a b p q = set-antisym a b (subset-has a b p) (subset-has b a q)
+
+pub proper-subset : (a b : ℕ) → proper a b ≡ true → subset a b ≡ true
+unfolding proper
+proper-subset a b e = and-left (subset a b) (not (eqb a b)) e
+
+-- a proper subset is a smaller number, so there is no endless descent
+pub proper-less : (a b : ℕ) → proper a b ≡ true → a < b
+unfolding proper subset
+proper-less a b e =
+    let same : bitAnd a b ≡ a = eqb-true (bitAnd a b) a (and-left (subset a b) (not (eqb a b)) e) in
+    let other : a ≢ b = eqb-false a b (not-true (eqb a b) (and-right (subset a b) (not (eqb a b)) e)) in
+    omega (arith, and-le-r a b)
+
+-- a subset that is not proper is the same set
+pub subset-same : (a b : ℕ) → subset a b ≡ true → proper a b ≡ false → a ≡ b
+unfolding proper
+subset-same a b e f = eqb-true a b (not-false (eqb a b) (sym (ap (λ (t : Bool). t && not (eqb a b)) e) ∙ f))

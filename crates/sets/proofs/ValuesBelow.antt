@@ -1,0 +1,90 @@
+-- Sets with no value d or above: smaller than 2 ^ d, and the other way; a set that is not empty has a value. Assumes nothing.
+use Prim.Native.Nat.{ℕ, zero, suc, _+_, _/_, _%_, _^_, _≤_, _<_}
+use mathlib.Core.Path.{_≡_, refl, sym, ap, _∙_, subst}
+use mathlib.Core.Logic.{_≢_, _⊎_, inl, inr}
+use mathlib.Core.Bool.{Bool, true, false, not, _&&_, true≢false, false≢true}
+use mathlib.Core.List.{List, [], _∷_, List·Memᴰ, List·Memᴰ·head, List·Memᴰ·tail}
+use native.Mathlib.Nat.{div-eq-of-lt, lt-of-lt-of-le, div-lt-iff-lt-mul, pow-suc, zero-lt-suc}
+use native.Mathlib.Decide.{decLt}
+use native.Mathlib.Omega.{arith}
+use lib.Arith.{bin-ind}
+use lib.Bits.{or-lt}
+use lib.Dec.{eqb, ltb}
+use lib.Pow.{pow-mono, pow-pos}
+use borrow.Author.Tests.{lt-ltb, ltb-true, eqb-false, ne-eqb, not-true}
+use Rattle.sets.specs.Sets.{has, union, below, within}
+use Rattle.sets.proofs.Bools.{and-left, and-right, and-both, true-or-false, not-both}
+use Rattle.sets.proofs.Values.{has-empty, has-zero, has-suc, set-ext}
+
+-- ---- by numbers
+
+pub less-below : (d r : ℕ) → r < 2 ^ d → below d r ≡ true
+unfolding below
+less-below d r h = lt-ltb r (2 ^ d) h
+
+pub below-less : (d r : ℕ) → below d r ≡ true → r < 2 ^ d
+unfolding below
+below-less d r e = ltb-true r (2 ^ d) e
+
+-- ---- by values
+
+-- a value of a set below 2 ^ d is below d
+pub has-less : (d r v : ℕ) → r < 2 ^ d → has r v ≡ true → v < d
+unfolding has
+has-less d r v h e = elim (decLt v d) [
+  | yes l ↦ l
+  | no n ↦ absurd (false≢true (sym (ap (λ (x : ℕ). eqb (x % 2) 1) (div-eq-of-lt (lt-of-lt-of-le h (pow-mono (omega (arith, n)))))) ∙ e))
+]
+
+-- a set whose values are all below d is below 2 ^ d
+pub less-has : (d r : ℕ) → ((v : ℕ) → has r v ≡ true → v < d) → r < 2 ^ d
+less-has zero r f = subst (λ (x : ℕ). x < 1) (set-ext zero r none) (zero-lt-suc 0)
+  where
+    none : (v : ℕ) → has zero v ≡ has r v
+    none v = elim (true-or-false (has r v)) [
+      | inl e ↦ absurd (omega (arith, f v e))
+      | inr e ↦ has-empty v ∙ sym e
+    ]
+less-has (suc d) r f =
+    rw pow-suc (div-lt-iff-lt-mul (zero-lt-suc 1) .0 (less-has d (r / 2) (λ v e. omega (arith, f (suc v) (has-suc r v ∙ e)))))
+
+-- ---- a value of a set that is not empty
+
+pub some-value : (r : ℕ) → r ≢ zero → (v : ℕ) × (has r v ≡ true)
+some-value = bin-ind (λ (n : ℕ). n ≢ zero → (v : ℕ) × (has n v ≡ true)) (λ f. absurd (f refl)) (λ n half f. go n half f (true-or-false (has n zero)))
+  where
+    go : (n : ℕ) → (n / 2 ≢ zero → (v : ℕ) × (has (n / 2) v ≡ true)) → n ≢ zero → (has n zero ≡ true) ⊎ (has n zero ≡ false) → (v : ℕ) × (has n v ≡ true)
+    go n half f (inl e) = (zero, e)
+    go n half f (inr e) = let t = half (λ z. f (set-ext n zero (nothing z))) in (suc (t .0), has-suc n (t .0) ∙ t .1)
+      where
+        nothing : n / 2 ≡ zero → (v : ℕ) → has n v ≡ has zero v
+        nothing z zero = e ∙ sym (has-empty zero)
+        nothing z (suc v) = has-suc n v ∙ ap (λ (x : ℕ). has x v) z ∙ has-empty v ∙ sym (has-empty (suc v))
+
+-- ---- rows
+
+pub within-some : (d r : ℕ) → within d r ≡ true → (v : ℕ) × (has r v ≡ true)
+unfolding within
+within-some d r e = some-value r (eqb-false r zero (not-true (eqb r zero) (and-left (not (eqb r zero)) (below d r) e)))
+
+pub within-less : (d r : ℕ) → within d r ≡ true → r < 2 ^ d
+unfolding within
+within-less d r e = below-less d r (and-right (not (eqb r zero)) (below d r) e)
+
+pub within-has : (d r v : ℕ) → within d r ≡ true → has r v ≡ true → v < d
+within-has d r v e h = has-less d r v (within-less d r e) h
+
+-- a set with a value, and none from d on, is a row
+pub has-within : (d r v : ℕ) → has r v ≡ true → ((u : ℕ) → has r u ≡ true → u < d) → within d r ≡ true
+unfolding within
+has-within d r v h f =
+    and-both (not (eqb r zero)) (below d r)
+    (ap not (ne-eqb r zero (λ z. not-both h (ap (λ (x : ℕ). has x v) z ∙ has-empty v))))
+    (less-below d r (less-has d r f))
+
+-- ---- a union of rows
+
+pub union-less : (d : ℕ) (rows : List ℕ) → ((r : ℕ) → List·Memᴰ r rows → r < 2 ^ d) → union rows < 2 ^ d
+unfolding union
+union-less d [] f = pow-pos d
+union-less d (r ∷ rows) f = or-lt d r (union rows) (f r (List·Memᴰ·head refl)) (union-less d rows (λ q m. f q (List·Memᴰ·tail m)))

@@ -1,0 +1,59 @@
+// Rows as sets of values: the leaf functions on one row, and the lowest bad row of a table.
+ghost use mathlib.Core.Path.{_≡_};
+ghost use Rattle.sets.specs.Sets.{has, subset, proper, below, within};
+ghost use Rattle.sets.specs.Tables.{badRow};
+
+// Value v is possible in the row. Total, so that no caller owes a bound: a word has no value 64.
+pub fn has(row: u64, v: usize) -> bool
+    ensures { λ r. ⌜ r ≡ has row v ⌝ }
+{
+    if v < 64 { (row >> v) % 2 == 1 } else { false }
+}
+
+// Every value of a is one of b's.
+pub fn subset(a: u64, b: u64) -> bool
+    ensures { λ r. ⌜ r ≡ subset a b ⌝ }
+{
+    a & b == a
+}
+
+// A subset of b that is not b.
+pub fn proper(a: u64, b: u64) -> bool
+    ensures { λ r. ⌜ r ≡ proper a b ⌝ }
+{
+    if subset(a, b) { a != b } else { false }
+}
+
+// No value d or above.
+pub fn below(row: u64, d: usize) -> bool
+    ensures { λ r. ⌜ r ≡ below d row ⌝ }
+{
+    if d < 64 { row >> d == 0 } else { true }
+}
+
+// Not empty, and no value d or above.
+pub fn within(row: u64, d: usize) -> bool
+    ensures { λ r. ⌜ r ≡ within d row ⌝ }
+{
+    if row == 0 { false } else { below(row, d) }
+}
+
+// Where something stands first.
+pub enum Found {
+    At(usize),
+    Nothing,
+}
+
+// The lowest row that is empty or has a value d or above.
+pub fn bad_row(table: &[u64], d: usize) -> Found
+    ensures { λ r. ⌜ r ≡ badRow d (now (table .entry)) ⌝ }
+{
+    let mut i = 0;
+    while i < table.len() {
+        if !within(table[i], d) {
+            return Found::At(i);
+        }
+        i += 1;
+    }
+    Found::Nothing
+}
