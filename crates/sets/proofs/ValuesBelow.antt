@@ -1,20 +1,20 @@
 -- Sets with no value d or above: smaller than 2 ^ d, and the other way; a set that is not empty has a value. Assumes nothing.
-use Prim.Native.Nat.{ℕ, zero, suc, _+_, _/_, _%_, _^_, _≤_, _<_}
+use Prim.Native.Nat.{ℕ, zero, suc, _/_, _%_, _^_, _<_}
 use mathlib.Core.Path.{_≡_, refl, sym, ap, _∙_, subst}
 use mathlib.Core.Logic.{_≢_, _⊎_, inl, inr}
-use mathlib.Core.Bool.{Bool, true, false, not, _&&_, true≢false, false≢true}
+use mathlib.Core.Bool.{true, false, not, false≢true}
 use mathlib.Core.List.{List, [], _∷_, List·Memᴰ, List·Memᴰ·head, List·Memᴰ·tail}
 use native.Mathlib.Nat.{div-eq-of-lt, lt-of-lt-of-le, div-lt-iff-lt-mul, pow-suc, zero-lt-suc}
 use native.Mathlib.Decide.{decLt}
 use native.Mathlib.Omega.{arith}
 use lib.Arith.{bin-ind}
 use lib.Bits.{or-lt}
-use lib.Dec.{eqb, ltb}
+use lib.Dec.{eqb}
 use lib.Pow.{pow-mono, pow-pos}
 use borrow.Author.Tests.{lt-ltb, ltb-true, eqb-false, ne-eqb, not-true}
 use Rattle.sets.specs.Sets.{has, union, below, within}
 use Rattle.sets.proofs.Bools.{and-left, and-right, and-both, true-or-false, not-both}
-use Rattle.sets.proofs.Values.{has-empty, has-zero, has-suc, set-ext}
+use Rattle.sets.proofs.Values.{has-empty, has-suc, set-ext}
 
 -- ---- by numbers
 

@@ -1,5 +1,5 @@
 -- `sets::has` meets its contract: a shift and a remainder below 64; a word has no value from 64 on. Assumes nothing.
-use mathlib.Core.Path.{refl, sym}
+use mathlib.Core.Path.{sym}
 use native.Mathlib.Omega.{arith}
 use borrow.Author.Needs.{needs}
 use Rattle.sets.specs.Sets.{has}

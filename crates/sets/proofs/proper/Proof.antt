@@ -1,8 +1,5 @@
 -- `sets::proper` meets its contract. Assumes nothing.
-use mathlib.Core.Path.{sym, ap, _∙_}
-use mathlib.Core.Bool.{Bool, not, _&&_}
 use borrow.Author.Needs.{needs}
-use lib.Dec.{eqb}
 use Rattle.sets.specs.Sets.{proper}
 use Rattle.sets.proofs.proper.Statement.{statement}
 use Rattle.sets.proofs.proper.Tie as tie

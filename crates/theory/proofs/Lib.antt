@@ -1,0 +1,26 @@
+-- What a reader looks for, then what it stands on, lowest last.
+-- `CasesHold`: P1 to P10, computed. `FamilyIff`: Lemma 3.4. `KeptFamily`, `KeptFewest`: demand 2.
+-- `NextRow`, `FailedSearch`: what the code needs of pairings that grow.
+pub mod CasesHold
+pub mod FamilyIff
+pub mod KeptFamily
+pub mod KeptFewest
+pub mod NextRow
+pub mod FailedSearch
+-- `KeptRows`: the rows at the kept positions. `FamilyByRank`: Theorem 3.6, another way. `SameFamilies`: what a common family says of two lists.
+-- `GreedyRank`: the second step comes to the view's rank. `MinimalRows`: the first step. `SwapValues`, `SwapRows`: the two exchange lemmas.
+pub mod KeptRows
+pub mod FamilyByRank
+pub mod SameFamilies
+pub mod GreedyRank
+pub mod MinimalRows
+pub mod SwapValues
+pub mod SwapRows
+-- `FewerRows`: ranks of fewer rows. `Marks`: pairings of marked rows. `Enumerations`: choices, pairings and rank are exact.
+-- `Sizes`: sizes compared. `PairingSteps`: a pairing changed at one row. `Places`: lists of mates by place.
+pub mod FewerRows
+pub mod Marks
+pub mod Enumerations
+pub mod Sizes
+pub mod PairingSteps
+pub mod Places

@@ -1,0 +1,73 @@
+-- What a largest pairing of the rows kept so far says of the next row. A row raises the rank by at most one: so a larger pairing of the kept rows and it is a largest one,
+-- and the row is kept; where the pairing at hand is still a largest one with it, the row is not. Assumes nothing.
+use Prim.Native.Nat.{ℕ, zero, suc, _≤_, _<_}
+use mathlib.Core.Path.{_≡_, ap, _∙_}
+use mathlib.Core.Logic.{inl, inr}
+use mathlib.Core.Bool.{Bool, true, cond}
+use mathlib.Core.List.{List}
+use native.Mathlib.Omega.{arith}
+use lib.ListN.{length, set}
+use borrow.Author.Tests.{lt-ltb, le-ltb}
+use Rattle.theory.specs.Pairings.{size, rank, at, Pairing, Largest}
+use Rattle.theory.specs.Kept.{marked, pick, try}
+use Rattle.theory.specs.Search.{mask}
+use Rattle.theory.proofs.Places.{Mate, mate?, not-mate, at-less, at-same, size-less}
+use Rattle.theory.proofs.PairingSteps.{pairing-drop}
+use Rattle.theory.proofs.Enumerations.{OfRank, rank-bound, rank-met}
+use Rattle.theory.proofs.Marks.{mark-cases, pairing-marked, pairing-whole, pairing-mask, rank-mask}
+
+module _ (d : ℕ) (view : List ℕ) where
+  -- a pairing that does not use row x is one of the rows without x
+  pub pairing-unused : (ms : List Bool) (x : ℕ) (p : List ℕ) → Pairing d (mask (set ms x true) view) p → at p x ≡ zero → Pairing d (mask ms view) p
+  pairing-unused ms x p P z = pairing-mask d view p ms others (pairing-whole d view p (set ms x true) P)
+    where
+      others : (i v : ℕ) → at p i ≡ suc v → marked ms i ≡ true
+      others i v e = elim (mark-cases ms x i (pairing-marked d view p (set ms x true) P i v e)) [
+        | inl s ↦ absurd (not-mate (ap (at p) s ∙ z) e)
+        | inr m ↦ m
+      ]
+
+  rank-step-masked : (ms : List Bool) (x : ℕ) → rank d (mask (set ms x true) view) ≤ suc (rank d (mask ms view))
+  rank-step-masked ms x = go (mate? (at q x))
+    where
+      met : OfRank d (mask (set ms x true) view)
+      met = rank-met d (mask (set ms x true) view)
+
+      q : List ℕ
+      q = met .0
+
+      go : Mate (at q x) → rank d (mask (set ms x true) view) ≤ suc (rank d (mask ms view))
+      go (inl z) = omega (arith, met .2, rank-bound d (mask ms view) q (pairing-unused ms x q (met .1) z))
+      go (inr t) =
+          let h : x < length q = at-less q x (t .0) (t .1) in
+          let P = pairing-unused ms x (set q x zero) (pairing-drop d (mask (set ms x true) view) q x (met .1) h) (at-same q x zero h) in
+          omega (arith, met .2, size-less q x (t .0) (t .1), rank-bound d (mask ms view) (set q x zero) P)
+
+  -- a row raises the rank by at most one
+  pub rank-step : (ms : List Bool) (x : ℕ) → rank d (pick (set ms x true) view) ≤ suc (rank d (pick ms view))
+  rank-step ms x = omega (arith, rank-mask d ms view, rank-mask d (set ms x true) view, rank-step-masked ms x)
+
+  module _ (ms : List Bool) (p : List ℕ) (P : Pairing d (mask ms view) p) (L : Largest d (mask ms view) p) where
+    largest-rank : rank d (mask ms view) ≡ size p
+    largest-rank = let h = rank-met d (mask ms view) in omega (arith, h .2, L (h .0) (h .1), rank-bound d (mask ms view) p P)
+
+    -- a larger pairing with row x: x is kept
+    pub next-kept : (x : ℕ) (q : List ℕ) → Pairing d (mask (set ms x true) view) q → size p < size q → try d view ms x ≡ set ms x true
+    unfolding try
+    next-kept x q Q h =
+        ap (λ (b : Bool). cond b (set ms x true) ms)
+        (lt-ltb (rank d (pick ms view)) (rank d (pick (set ms x true) view))
+        (omega (arith, h, largest-rank, rank-mask d ms view, rank-mask d (set ms x true) view, rank-bound d (mask (set ms x true) view) q Q)))
+
+    -- and that pairing is a largest one
+    pub next-largest : (x : ℕ) (q : List ℕ) → Pairing d (mask (set ms x true) view) q → size p < size q → Largest d (mask (set ms x true) view) q
+    next-largest x q Q h r R = omega (arith, h, largest-rank, rank-step-masked ms x, rank-bound d (mask (set ms x true) view) r R)
+
+    -- the pairing at hand is still a largest one with row x: x is not kept
+    pub next-passed : (x : ℕ) → Largest d (mask (set ms x true) view) p → try d view ms x ≡ ms
+    unfolding try
+    next-passed x M =
+        let h = rank-met d (mask (set ms x true) view) in
+        ap (λ (b : Bool). cond b (set ms x true) ms)
+        (le-ltb (rank d (pick ms view)) (rank d (pick (set ms x true) view))
+        (omega (arith, largest-rank, rank-mask d ms view, rank-mask d (set ms x true) view, h .2, M (h .0) (h .1))))
