@@ -1,7 +1,7 @@
 -- Which values a set has: of the empty set, of one value, of an intersection, a union and a symmetric difference; two sets with the same values are equal. Assumes nothing.
 use Prim.Native.Nat.{ℕ, zero, suc, _+_, _*_, _/_, _%_, _^_, _<_}
 use mathlib.Core.Path.{_≡_, refl, sym, ap, ap₂, _∙_}
-use mathlib.Core.Logic.{inl, inr}
+use mathlib.Core.Logic.{_⊎_, inl, inr}
 use mathlib.Core.Bool.{Bool, true, false, not, cond, _&&_, _||_, false≢true}
 use mathlib.Core.List.{List, [], _∷_, List·Memᴰ, List·Memᴰ·head, List·Memᴰ·tail}
 use native.Mathlib.Nat.{zero-div, div-one, div-div-eq-div-mul, mul-comm, pow-suc, mul-div-cancel, mul-mod-left, mod-lt, div-add-mod', zero-lt-suc}
@@ -9,9 +9,9 @@ use native.Mathlib.Omega.{arith}
 use lib.Arith.{bin-ind}
 use lib.Bits.{bitAnd, bitOr, bitXor, and-shr, or-shr, xor-shr, and-mod, or-mod, xor-mod}
 use lib.Dec.{eqb, eqb·suc-suc, eqb·zero-suc, eqb·suc-zero}
-use borrow.Author.Tests.{eq-eqb}
-use Rattle.sets.specs.Sets.{has, single, union}
-use Rattle.sets.proofs.Bools.{or-cases, or-left, or-right, bool-ext}
+use borrow.Author.Tests.{eq-eqb, eqb-true, not-true}
+use Rattle.sets.specs.Sets.{has, single, union, minus}
+use Rattle.sets.proofs.Bools.{and-left, and-right, and-both, or-cases, or-left, or-right, true-or-false, not-both, false-not, bool-ext}
 
 -- ---- digit by digit
 
@@ -75,6 +75,15 @@ has-xor = has-op bitXor (λ x y. cond y (not x) x) xor-shr xor-mod table
     table false true = refl
     table false false = refl
 
+pub has-minus : (a b v : ℕ) → has (minus a b) v ≡ (has a v && not (has b v))
+unfolding minus
+has-minus a b v = has-xor a (bitAnd a b) v ∙ ap (λ (t : Bool). cond t (not (has a v)) (has a v)) (has-and a b v) ∙ table (has a v) (has b v)
+  where
+    table : (x y : Bool) → cond (x && y) (not x) x ≡ (x && not y)
+    table true true = refl
+    table true false = refl
+    table false y = refl
+
 -- ---- the empty set, and the set of one value
 
 pub has-empty : (v : ℕ) → has zero v ≡ false
@@ -99,6 +108,37 @@ has-single (suc u) (suc v) =
 
 pub has-same : (v : ℕ) → has (single v) v ≡ true
 has-same v = has-single v v ∙ eq-eqb v v refl
+
+-- ---- one value more
+
+pub with-old : (a v u : ℕ) → has a u ≡ true → has (bitOr a (single v)) u ≡ true
+with-old a v u e = has-or a (single v) u ∙ or-left (has a u) (has (single v) u) e
+
+pub with-new : (a v : ℕ) → has (bitOr a (single v)) v ≡ true
+with-new a v = has-or a (single v) v ∙ or-right (has a v) (has (single v) v) (has-same v)
+
+pub with-cases : (a v u : ℕ) → has (bitOr a (single v)) u ≡ true → (u ≡ v) ⊎ (has a u ≡ true)
+with-cases a v u e = elim (or-cases (has a u) (has (single v) u) (sym (has-or a (single v) u) ∙ e)) [
+  | inl p ↦ inr p
+  | inr q ↦ inl (sym (eqb-true v u (sym (has-single v u) ∙ q)))
+]
+
+-- ---- a difference
+
+pub minus-in : (a b v : ℕ) → has a v ≡ true → has b v ≡ false → has (minus a b) v ≡ true
+minus-in a b v t f = has-minus a b v ∙ and-both (has a v) (not (has b v)) t (false-not (has b v) f)
+
+pub minus-out : (a b v : ℕ) → has (minus a b) v ≡ true → (has a v ≡ true) × (has b v ≡ false)
+minus-out a b v e =
+    let both : (has a v && not (has b v)) ≡ true = sym (has-minus a b v) ∙ e in
+    (and-left (has a v) (not (has b v)) both, not-true (has b v) (and-right (has a v) (not (has b v)) both))
+
+-- nothing is left where every value is taken away
+pub minus-none : (a b : ℕ) → minus a b ≡ zero → (v : ℕ) → has a v ≡ true → has b v ≡ true
+minus-none a b e v t = elim (true-or-false (has b v)) [
+  | inl h ↦ h
+  | inr f ↦ absurd (not-both (minus-in a b v t f) (ap (λ (x : ℕ). has x v) e ∙ has-empty v))
+]
 
 -- ---- a set is its values
 

@@ -1,6 +1,9 @@
 // Rows as sets of values: the leaf functions on one row, and the lowest bad row of a table.
 ghost use mathlib.Core.Path.{_≡_};
-ghost use Rattle.sets.specs.Sets.{has, subset, proper, below, within};
+ghost use Prim.Native.Nat.{_-_, _<_};
+ghost use lib.Bits.{bitOr};
+ghost use lib.Count.{trailingZeros, leadingZeros};
+ghost use Rattle.sets.specs.Sets.{has, single, subset, proper, minus, below, within};
 ghost use Rattle.sets.specs.Tables.{badRow};
 
 // Value v is possible in the row. Total, so that no caller owes a bound: a word has no value 64.
@@ -22,6 +25,35 @@ pub fn proper(a: u64, b: u64) -> bool
     ensures { λ r. ⌜ r ≡ proper a b ⌝ }
 {
     if subset(a, b) { a != b } else { false }
+}
+
+// The values of a that are not b's.
+pub fn minus(a: u64, b: u64) -> u64
+    ensures { λ r. ⌜ r ≡ minus a b ⌝ }
+{
+    a ^ (a & b)
+}
+
+// The set with the value v put in.
+pub fn with(set: u64, v: usize) -> u64
+    requires { ⌜ v < 64 ⌝ }
+    ensures { λ r. ⌜ r ≡ bitOr set (single v) ⌝ }
+{
+    set | (1 << v)
+}
+
+// The lowest value of the set, and 64 where it has none.
+pub fn lowest(set: u64) -> usize
+    ensures { λ r. ⌜ r ≡ trailingZeros 64 set ⌝ }
+{
+    u64::trailing_zeros(set) as usize
+}
+
+// One more than the highest value of the set, and 0 where it has none.
+pub fn top(set: u64) -> usize
+    ensures { λ r. ⌜ r ≡ 64 - leadingZeros 64 set ⌝ }
+{
+    64 - u64::leading_zeros(set) as usize
 }
 
 // No value d or above.

@@ -9,7 +9,6 @@ use native.Mathlib.Omega.{arith}
 use lib.ListN.{length}
 use Rattle.sets.proofs.Bools.{true-or-false, not-both}
 use Rattle.theory.specs.Pairings.{size, at, In, Seated, Pairing, Largest}
-use Rattle.theory.specs.Kept.{marked}
 use Rattle.theory.specs.Search.{Closed, Tried}
 use Rattle.theory.proofs.Places.{past, seated?}
 use Rattle.theory.proofs.Sizes.{size-by-places, size-by-values}
@@ -26,44 +25,44 @@ at-table zero f z i = sym (z i (omega arith))
 at-table (suc n) f z zero = refl
 at-table (suc n) f z (suc i) = at-table n (λ j. f (suc j)) (λ j h. z (suc j) (omega arith)) i
 
-module _ (d : ℕ) (rows p : List ℕ) (P : Pairing d rows p) (asked : List Bool) (closed : Closed d rows p asked) (tried : Tried d rows p asked) where
+module _ (d : ℕ) (rows p : List ℕ) (P : Pairing d rows p) (asked : ℕ → Bool) (closed : Closed d rows p asked) (tried : Tried d rows p asked) where
   module _ (q : List ℕ) (Q : Pairing d rows q) where
     -- p's mate at a row that was asked, and q's at the others
     mixed : ℕ → ℕ
-    mixed i = cond (marked asked i) (at p i) (at q i)
+    mixed i = cond (asked i) (at p i) (at q i)
 
     mix : List ℕ
     mix = table (length rows) mixed
 
     at-mix : (i : ℕ) → at mix i ≡ mixed i
     unfolding mix mixed
-    at-mix i = at-table (length rows) mixed (λ j h. none j (marked asked j) (omega (arith, h, P .fits)) (omega (arith, h, Q .fits))) i
+    at-mix i = at-table (length rows) mixed (λ j h. none j (asked j) (omega (arith, h, P .fits)) (omega (arith, h, Q .fits))) i
       where
         none : (j : ℕ) (b : Bool) → length p ≤ j → length q ≤ j → cond b (at p j) (at q j) ≡ zero
         none j true hp hq = past p j hp
         none j false hp hq = past q j hq
 
-    at-asked : (i : ℕ) → marked asked i ≡ true → at mix i ≡ at p i
+    at-asked : (i : ℕ) → asked i ≡ true → at mix i ≡ at p i
     unfolding mixed
     at-asked i e = at-mix i ∙ ap (λ (b : Bool). cond b (at p i) (at q i)) e
 
-    at-left : (i : ℕ) → marked asked i ≡ false → at mix i ≡ at q i
+    at-left : (i : ℕ) → asked i ≡ false → at mix i ≡ at q i
     unfolding mixed
     at-left i e = at-mix i ∙ ap (λ (b : Bool). cond b (at p i) (at q i)) e
 
     -- where a mate of the mix comes from
     From : ℕ → ℕ → Type 0
-    From i v = ((marked asked i ≡ true) × (at p i ≡ suc v)) ⊎ ((marked asked i ≡ false) × (at q i ≡ suc v))
+    From i v = ((asked i ≡ true) × (at p i ≡ suc v)) ⊎ ((asked i ≡ false) × (at q i ≡ suc v))
 
     from : (i v : ℕ) → at mix i ≡ suc v → From i v
     unfolding From
-    from i v e = elim (true-or-false (marked asked i)) [
+    from i v e = elim (true-or-false (asked i)) [
       | inl a ↦ inl (a, sym (at-asked i a) ∙ e)
       | inr a ↦ inr (a, sym (at-left i a) ∙ e)
     ]
 
     -- a value of an asked row of p is held by asked rows alone
-    heard : (i j v : ℕ) → marked asked i ≡ true → at p i ≡ suc v → In d (at rows j) v → marked asked j ≡ true
+    heard : (i j v : ℕ) → asked i ≡ true → at p i ≡ suc v → In d (at rows j) v → asked j ≡ true
     heard i j v a e inn = let t = closed i a in let same : suc (t .0) ≡ suc v = sym (t .1) ∙ e in t .2 j (subst (In d (at rows j)) (omega arith) inn)
 
     mix-apart : (i j v : ℕ) → at mix i ≡ suc v → at mix j ≡ suc v → i ≡ j
@@ -88,7 +87,7 @@ module _ (d : ℕ) (rows p : List ℕ) (P : Pairing d rows p) (asked : List Bool
     ]
 
     mix-places : (i v : ℕ) → at q i ≡ suc v → (w : ℕ) × (at mix i ≡ suc w)
-    mix-places i v e = elim (true-or-false (marked asked i)) [
+    mix-places i v e = elim (true-or-false (asked i)) [
       | inl a ↦ let t = closed i a in (t .0, at-asked i a ∙ t .1)
       | inr a ↦ (v, at-left i a ∙ e)
     ]

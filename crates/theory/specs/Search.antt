@@ -1,11 +1,10 @@
 -- A search for a larger pairing (document 01): 'a value that finds its row taken asks that row's present value to move ..
--- No row is asked twice in one search.' These are the words in which the search in code says what it did.
+-- No row is asked twice in one search.' These are the words in which the search in code says what it did: `asked` tests whether a row was asked.
 use Prim.Native.Nat.{ℕ, zero, suc, _<_}
 use mathlib.Core.Path.{_≡_}
 use mathlib.Core.Bool.{Bool, true, false}
 use mathlib.Core.List.{List, [], _∷_}
 use Rattle.theory.specs.Pairings.{at, In, Seated}
-use Rattle.theory.specs.Kept.{marked}
 
 -- the marked rows of a view at their places, and an empty row, which no pairing can use, at the others
 unfoldable pub mask : List Bool → List ℕ → List ℕ
@@ -14,20 +13,14 @@ mask [] (r ∷ rows) = zero ∷ mask [] rows
 mask (true ∷ ms) (r ∷ rows) = r ∷ mask ms rows
 mask (false ∷ ms) (r ∷ rows) = zero ∷ mask ms rows
 
--- how many rows are not asked yet: the number that falls
-unfoldable pub unasked : List Bool → ℕ
-unasked [] = zero
-unasked (true ∷ asked) = unasked asked
-unasked (false ∷ asked) = suc (unasked asked)
-
 -- every row that holds v is asked
-abbrev pub Heard : ℕ → List ℕ → List Bool → ℕ → Type 0
-Heard d rows asked v = (i : ℕ) → In d (at rows i) v → marked asked i ≡ true
+abbrev pub Heard : ℕ → List ℕ → (ℕ → Bool) → ℕ → Type 0
+Heard d rows asked v = (i : ℕ) → In d (at rows i) v → asked i ≡ true
 
 -- every row that was asked has a mate, and every row that holds this mate was asked too
-abbrev pub Closed : ℕ → List ℕ → List ℕ → List Bool → Type 0
-Closed d rows p asked = (i : ℕ) → marked asked i ≡ true → (w : ℕ) × (at p i ≡ suc w) × Heard d rows asked w
+abbrev pub Closed : ℕ → List ℕ → List ℕ → (ℕ → Bool) → Type 0
+Closed d rows p asked = (i : ℕ) → asked i ≡ true → (w : ℕ) × (at p i ≡ suc w) × Heard d rows asked w
 
 -- every value that has no row has asked all the rows that hold it
-abbrev pub Tried : ℕ → List ℕ → List ℕ → List Bool → Type 0
+abbrev pub Tried : ℕ → List ℕ → List ℕ → (ℕ → Bool) → Type 0
 Tried d rows p asked = (v : ℕ) → v < d → (Seated p v → ⊥) → Heard d rows asked v

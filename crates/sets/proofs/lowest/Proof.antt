@@ -1,0 +1,15 @@
+-- `sets::lowest` meets its contract. Assumes nothing.
+use native.Mathlib.Omega.{arith}
+use lib.Count.{trailing-le}
+use borrow.Author.Needs.{needs}
+use Rattle.sets.proofs.lowest.Statement.{statement}
+use Rattle.sets.proofs.lowest.Tie as tie
+
+cast-result : tie.Need-cast-result
+cast-result c = record { fits = omega (arith, trailing-le 64 (c .args .set)) }
+
+returns : tie.Need-returns
+returns c = search needs
+
+pub lowest-spec : {M : Type 1} → statement M
+lowest-spec = tie.close (tie.spec cast-result returns)
