@@ -1,11 +1,11 @@
 -- The lowest and the highest value of a set, as the counts of its zeros give them. Assumes nothing.
-use Prim.Native.Nat.{ℕ, zero, suc, _-_, _/_, _%_, _^_, _≤_, _<_}
+use Prim.Native.Nat.{ℕ, zero, suc, _+_, _-_, _/_, _%_, _^_, _≤_, _<_}
 use mathlib.Core.Path.{_≡_, sym, ap, _∙_, subst}
 use mathlib.Core.Logic.{_≢_, _⊎_, inl, inr}
 use mathlib.Core.Bool.{true}
-use native.Mathlib.Nat.{mod-lt, zero-lt-suc, div-lt-iff-lt-mul, le-div-iff-mul-le, pow-suc, mul-comm, one-mul}
+use native.Mathlib.Nat.{mod-lt, zero-lt-suc, div-lt-iff-lt-mul, le-div-iff-mul-le, pow-suc, mul-comm, one-mul, eq-zero-or-pos}
 use native.Mathlib.Omega.{arith}
-use lib.Count.{trailingZeros, leadingZeros, under, leading-top}
+use lib.Count.{trailingZeros, leadingZeros, under, leading-of-zero, leading-top}
 use lib.Dec.{eqb}
 use lib.Pow.{pow-pos}
 use borrow.Author.Tests.{eqb-true, eqb-false}
@@ -52,6 +52,15 @@ highest-digit a j h l = ap (λ (x : ℕ). eqb (x % 2) 1) one
     one : a / 2 ^ j ≡ 1
     one = omega (arith, least, most)
 
--- of a set of values below k, which is not empty, the highest is one less than what the zeros above it leave of k
-pub top-has : (k a : ℕ) → a < 2 ^ k → a ≢ zero → (j : ℕ) × (k - leadingZeros k a ≡ suc j) × (j < k) × (has a j ≡ true)
-top-has k a h ne = let t = leading-top k a (omega (arith, ne)) h in (t .0, omega (arith, t .1), omega (arith, t .1), highest-digit a (t .0) (t .2) (t .3))
+-- of a set of values below k: one more than its highest value is what the zeros above it leave of k, and 0 where it has none
+pub top-has : (k a r : ℕ) → a < 2 ^ k → r ≡ k - leadingZeros k a → r ≢ zero → (r - 1 < k) × (has a (r - 1) ≡ true)
+top-has k a r h e ne = go (leading-top k a (omega (arith, some)) h)
+  where
+    some : a ≢ zero
+    some z = ne (e ∙ ap (λ (x : ℕ). k - leadingZeros k x) z ∙ (let all : leadingZeros k zero ≡ k = leading-of-zero k in omega arith))
+
+    go : (j : ℕ) × (leadingZeros k a + suc j ≡ k) × (2 ^ j ≤ a) × (a < 2 ^ suc j) → (r - 1 < k) × (has a (r - 1) ≡ true)
+    go (j, sum, least, most) = let is : r - 1 ≡ j = omega arith in (omega arith, ap (has a) is ∙ highest-digit a j least most)
+
+pub top-none : (k a r : ℕ) → a < 2 ^ k → r ≡ k - leadingZeros k a → r ≡ zero → a ≡ zero
+top-none k a r h e z = elim (eq-zero-or-pos a) [ inl n ↦ n | inr p ↦ let t = leading-top k a p h in absurd (omega (arith, t .1)) ]

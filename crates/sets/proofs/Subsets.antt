@@ -6,10 +6,10 @@ use mathlib.Core.Bool.{Bool, true, false, not, _&&_}
 use native.Mathlib.Omega.{arith}
 use lib.Bits.{bitAnd, and-le-r}
 use lib.Dec.{eqb}
-use borrow.Author.Tests.{eqb-true, eqb-false, eq-eqb, not-true, not-false}
-use Rattle.sets.specs.Sets.{has, subset, proper}
-use Rattle.sets.proofs.Bools.{and-left, and-right, and-both}
-use Rattle.sets.proofs.Values.{has-and, set-antisym}
+use borrow.Author.Tests.{eqb-true, eqb-false, eq-eqb, ne-eqb, not-true, not-false}
+use Rattle.sets.specs.Sets.{has, single, subset, proper, minus}
+use Rattle.sets.proofs.Bools.{and-left, and-right, and-both, not-both}
+use Rattle.sets.proofs.Values.{has-and, has-same, minus-out, set-antisym}
 
 pub subset-has : (a b : ℕ) → subset a b ≡ true → (v : ℕ) → has a v ≡ true → has b v ≡ true
 unfolding subset
@@ -46,3 +46,16 @@ proper-less a b e =
 pub subset-same : (a b : ℕ) → subset a b ≡ true → proper a b ≡ false → a ≡ b
 unfolding proper
 subset-same a b e f = eqb-true a b (not-false (eqb a b) (sym (ap (λ (t : Bool). t && not (eqb a b)) e) ∙ f))
+
+-- ---- a value taken out
+
+pub minus-subset : (a b : ℕ) → subset (minus a b) a ≡ true
+minus-subset a b = has-subset (minus a b) a (λ v h. minus-out a b v h .0)
+
+-- leaves a smaller number, so that a walk through a set ends
+pub without-less : (a v : ℕ) → has a v ≡ true → minus a (single v) < a
+unfolding proper
+without-less a v h = proper-less (minus a (single v)) a (and-both (subset (minus a (single v)) a) (not (eqb (minus a (single v)) a)) (minus-subset a (single v)) other)
+  where
+    other : not (eqb (minus a (single v)) a) ≡ true
+    other = ap not (ne-eqb (minus a (single v)) a (λ e. not-both (has-same v) (minus-out a (single v) v (ap (λ (x : ℕ). has x v) e ∙ h) .1)))

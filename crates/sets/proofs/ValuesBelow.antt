@@ -12,9 +12,9 @@ use lib.Bits.{or-lt}
 use lib.Dec.{eqb}
 use lib.Pow.{pow-mono, pow-pos}
 use borrow.Author.Tests.{lt-ltb, ltb-true, eqb-false, ne-eqb, not-true}
-use Rattle.sets.specs.Sets.{has, union, below, within}
+use Rattle.sets.specs.Sets.{has, union, minus, below, within}
 use Rattle.sets.proofs.Bools.{and-left, and-right, and-both, true-or-false, not-both}
-use Rattle.sets.proofs.Values.{has-empty, has-suc, set-ext}
+use Rattle.sets.proofs.Values.{has-empty, has-suc, minus-out, set-ext}
 
 -- ---- by numbers
 
@@ -82,7 +82,10 @@ has-within d r v h f =
     (ap not (ne-eqb r zero (λ z. not-both h (ap (λ (x : ℕ). has x v) z ∙ has-empty v))))
     (less-below d r (less-has d r f))
 
--- ---- a union of rows
+-- ---- differences and unions
+
+pub minus-word : (k a b : ℕ) → a < 2 ^ k → minus a b < 2 ^ k
+minus-word k a b h = less-has k (minus a b) (λ v e. has-less k a v h (minus-out a b v e .0))
 
 pub union-less : (d : ℕ) (rows : List ℕ) → ((r : ℕ) → List·Memᴰ r rows → r < 2 ^ d) → union rows < 2 ^ d
 unfolding union

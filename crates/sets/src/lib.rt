@@ -42,6 +42,14 @@ pub fn with(set: u64, v: usize) -> u64
     set | (1 << v)
 }
 
+// The set with the value v taken out.
+pub fn without(set: u64, v: usize) -> u64
+    requires { ⌜ v < 64 ⌝ }
+    ensures { λ r. ⌜ r ≡ minus set (single v) ⌝ }
+{
+    minus(set, 1 << v)
+}
+
 // The lowest value of the set, and 64 where it has none.
 pub fn lowest(set: u64) -> usize
     ensures { λ r. ⌜ r ≡ trailingZeros 64 set ⌝ }

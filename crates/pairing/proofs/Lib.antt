@@ -1,0 +1,2 @@
+-- `AskSteps`: what each step of the search shows.
+pub mod AskSteps

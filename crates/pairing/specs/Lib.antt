@@ -1,0 +1,2 @@
+-- `Asking`: what the contracts of the search speak of.
+pub mod Asking
