@@ -1,2 +1,3 @@
--- `AskSteps`: what each step of the search shows.
+-- `AskSteps`: what each step of the search shows. `SearchRounds`: the values that have no row, one after another.
 pub mod AskSteps
+pub mod SearchRounds

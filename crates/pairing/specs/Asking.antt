@@ -37,6 +37,13 @@ pub record Asks (v : ℕ) (rows columns : List ℕ) (heavy : ℕ) (p : List ℕ)
   pub pairing : Pairing 64 rows p
   pub new : Seated p v → ⊥
 
+-- the values of `free` may be asked
+pub record Searches (free : ℕ) (rows columns : List ℕ) (heavy : ℕ) (p : List ℕ) : Type 0 where
+  pub few : length rows ≤ 64
+  pub index : Index rows columns heavy
+  pub pairing : Pairing 64 rows p
+  pub new : (v : ℕ) → has free v ≡ true → Seated p v → ⊥
+
 -- p′ is a pairing that is larger by one: v has got a row, and the values that had one have one still
 pub record Grown (rows : List ℕ) (v : ℕ) (p p′ : List ℕ) : Type 0 where
   pub pairing : Pairing 64 rows p′
@@ -69,8 +76,9 @@ pub record OfRow (r : Bool) (i v : ℕ) (rows p : List ℕ) (asked : ℕ) (p′ 
   pub stuck : r ≡ false → Stuck rows p asked p′ asked′
   pub taken : r ≡ false → Taken rows p asked′ i
 
--- what a search from the values of `free` answers: the value that has got a row, or 64
-pub record OfSearch (r free : ℕ) (rows p : List ℕ) (p′ : List ℕ) (asked′ : ℕ) : Type 0 where
+-- what a search from the values of `free` answers: the value that has got a row, or 64 where none has
+pub record OfSearch (r free : ℕ) (rows p p′ : List ℕ) (asked′ : ℕ) : Type 0 where
   pub found : r < 64 → (has free r ≡ true) × Grown rows r p p′
-  pub stuck : 64 ≤ r → Stuck rows p zero p′ asked′
+  pub still : 64 ≤ r → p′ ≡ p
+  pub closed : 64 ≤ r → (i : ℕ) → has asked′ i ≡ true → Taken rows p asked′ i
   pub heard : 64 ≤ r → (v : ℕ) → has free v ≡ true → Heard 64 rows (has asked′) v

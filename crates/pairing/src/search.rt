@@ -6,7 +6,7 @@ ghost use Prim.Native.Nat.{_<_};
 ghost use lib.ListN.{length};
 ghost use Rattle.sets.specs.Sets.{has};
 ghost use Rattle.theory.specs.Pairings.{at};
-ghost use Rattle.pairing.specs.Asking.{Asks, OfValue, OfRow};
+ghost use Rattle.pairing.specs.Asking.{Asks, Searches, OfValue, OfRow, OfSearch};
 
 // The value v, which has no row, asks the rows that hold it and are not asked yet, the last first. True where it has got one.
 pub fn ask_value(
@@ -61,4 +61,29 @@ pub fn ask_row(
     }
     mates[i] = w;
     false
+}
+
+// The values of `free`, which have no rows, ask one after another until one has got a row. Answers that value, or 64; `asked` starts empty.
+pub fn search(
+    free: u64,
+    rows: &[u64],
+    columns: &[u64],
+    heavy: u64,
+    mates: &mut [usize],
+    asked: &mut u64,
+) -> usize
+    requires { ⌜ Searches free (now rows) (now columns) heavy (now mates) × (now asked ≡ 0) ⌝ }
+    ensures { λ r. ⌜ OfSearch r free (now (rows .entry)) (now (mates .entry)) (now (mates .exit)) (now (asked .exit)) ⌝ }
+{
+    let mut left = free;
+    loop {
+        if left == 0 {
+            return 64;
+        }
+        let v = sets::lowest(left);
+        left = sets::without(left, v);
+        if ask_value(v, rows, columns, heavy, mates, asked) {
+            return v;
+        }
+    }
 }
