@@ -1,3 +1,5 @@
 -- `AskSteps`: what each step of the search shows. `SearchRounds`: the values that have no row, one after another.
 pub mod AskSteps
 pub mod SearchRounds
+pub mod SeatColumns
+pub mod SeatReach

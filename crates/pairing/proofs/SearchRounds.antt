@@ -1,5 +1,5 @@
 -- A search goes through the values that have no row: those that are not left to ask have asked every row that holds them. Assumes nothing.
-use Prim.Native.Nat.{ℕ, zero, _^_, _≤_, _<_}
+use Prim.Native.Nat.{ℕ, zero, _^_, _<_}
 use mathlib.Core.Path.{_≡_, refl, sym, ap, _∙_, subst}
 use mathlib.Core.Logic.{_≢_, _⊎_, inl, inr}
 use mathlib.Core.Bool.{Bool, true, false}
