@@ -3,3 +3,6 @@ pub mod AskSteps
 pub mod SearchRounds
 pub mod SeatColumns
 pub mod SeatReach
+pub mod Snoc
+pub mod Benches
+pub mod SeatSteps

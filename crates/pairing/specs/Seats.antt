@@ -1,12 +1,15 @@
 -- What the contracts of the seats speak of.
-use Prim.Native.Nat.{ℕ, suc, _≤_}
+use Prim.Native.Nat.{ℕ, zero, suc, _+_, _≤_, _<_}
 use mathlib.Core.Path.{_≡_}
 use mathlib.Core.Logic.{_⊎_}
 use mathlib.Core.Bool.{true, false}
-use mathlib.Core.List.{List}
-use lib.ListN.{length}
-use Rattle.sets.specs.Sets.{has}
-use Rattle.theory.specs.Pairings.{at}
+use mathlib.Core.List.{List, [], _∷_, _++_}
+use lib.Bits.{bitOr}
+use lib.ListN.{length, take}
+use Rattle.sets.specs.Sets.{has, single, minus}
+use Rattle.theory.specs.Pairings.{size, at, Seated, Pairing}
+use Rattle.pairing.specs.declared.seats.Seats.{Seats}
+use Rattle.pairing.specs.Asking.{Inside, Index, Shut}
 
 -- row i stands in the columns of its values now, and else they are as they were
 pub record Entered (row i : ℕ) (columns columns′ : List ℕ) : Type 0 where
@@ -24,3 +27,47 @@ pub record Mates (p : List ℕ) : Type 0 where
 pub record Unreached (asked : ℕ) (p : List ℕ) (r : ℕ) : Type 0 where
   pub all : (i u : ℕ) → at p i ≡ suc u → has asked i ≡ false → has r u ≡ true
   pub only : (u : ℕ) → has r u ≡ true → (i : ℕ) × (at p i ≡ suc u) × (has asked i ≡ false)
+
+-- every value of the row is below d
+abbrev pub Below : ℕ → ℕ → Type 0
+Below d row = (v : ℕ) → has row v ≡ true → v < d
+
+-- The rows R on the seats have the mates p, each row one: a pairing that uses them all.
+pub record Bench (s : Seats) (R columns p : List ℕ) : Type 0 where
+  pub used : length R ≡ s .used
+  pub column : s .d ≤ 64
+  pub pairing : Pairing 64 R p
+  pub full : size p ≡ length R
+  pub small : (i : ℕ) → Below (s .d) (at R i)
+  pub new : (v : ℕ) → has (s .free) v ≡ true → (v < s .d) × (Seated p v → ⊥)
+  pub free : (v : ℕ) → v < s .d → (Seated p v → ⊥) → has (s .free) v ≡ true
+  pub shut : Shut R p (s .dead)
+  pub index : Index R columns (s .heavy)
+
+-- the seats in use are the first of 64
+pub record Sitting (s : Seats) (rows columns mates : List ℕ) : Type 0 where
+  pub rows-wide : length rows ≡ 64
+  pub mates-wide : length mates ≡ 64
+  pub few : s .used ≤ 64
+  pub bench : Bench s (take (s .used) rows) columns (take (s .used) mates)
+
+-- v has got a row, and the new row a seat
+abbrev pub taking : Seats → ℕ → Seats
+taking s v = record { d = s .d; used = s .used + 1; entered = s .entered; free = minus (s .free) (single v); dead = s .dead; heavy = bitOr (s .heavy) (single (s .used)) }
+
+-- the row has got no seat: it holds dead values only, or no value is free
+pub record Passed (row : ℕ) (s : Seats) (rows : List ℕ) (s′ : Seats) (rows′ : List ℕ) : Type 0 where
+  pub used : s′ .used ≡ s .used
+  pub rows-kept : take (s .used) rows′ ≡ take (s .used) rows
+  pub why : Inside row (s′ .dead) ⊎ (s′ .free ≡ zero)
+
+-- the row has got the next seat
+pub record Raised (row : ℕ) (s : Seats) (rows : List ℕ) (s′ : Seats) (rows′ : List ℕ) : Type 0 where
+  pub used : s′ .used ≡ s .used + 1
+  pub rows-more : take (s′ .used) rows′ ≡ take (s .used) rows ++ row ∷ []
+
+-- what `seat` answers
+pub record OfSeat (row : ℕ) (s : Seats) (rows : List ℕ) (s′ : Seats) (rows′ columns′ mates′ : List ℕ) : Type 0 where
+  pub sits : Sitting s′ rows′ columns′ mates′
+  pub column : s′ .d ≡ s .d
+  pub either : Passed row s rows s′ rows′ ⊎ Raised row s rows s′ rows′

@@ -5,7 +5,8 @@ ghost use Prim.Native.Nat.{_<_, _≤_};
 ghost use lib.ListN.{length};
 ghost use Rattle.sets.specs.Sets.{has};
 ghost use Rattle.pairing.specs.Asking.{Index};
-ghost use Rattle.pairing.specs.Seats.{Entered, Mates, Unreached};
+ghost use Rattle.pairing.specs.Seats.{Entered, Mates, Unreached, Below, Sitting, taking, OfSeat};
+use crate::search::search;
 
 // Beside the seats' rows, columns and mates: `d` is how many values the column has, `free` the values below d that have no row,
 // `dead` values that never come free again, `heavy` the seats that stand in no column, and those before `entered` are as they should be.
@@ -68,4 +69,85 @@ fn unreached(asked: u64, mates: &[usize]) -> u64
         }
     }
     dead
+}
+
+// The seats when the value v has got a row, and the new row a seat.
+fn taken(s: Seats, v: usize) -> Seats
+    requires { ⌜ (v < 64) × (s .used < 64) ⌝ }
+    ensures { λ r. ⌜ r ≡ taking s v ⌝ }
+{
+    Seats {
+        d: s.d,
+        used: s.used + 1,
+        entered: s.entered,
+        free: sets::without(s.free, v),
+        dead: s.dead,
+        heavy: sets::with(s.heavy, s.used),
+    }
+}
+
+// The row holds no value that is free: a search decides whether it gets a seat. If not, the values that no question reached never come free again.
+fn seek(row: u64, s: Seats, rows: &mut [u64], columns: &mut [u64], mates: &mut [usize]) -> Seats
+    requires { ⌜ (s .used < 64) × Sitting s (now rows) (now columns) (now mates) × Below (s .d) row ⌝ }
+    ensures { λ r. ⌜ OfSeat row s (now (rows .entry)) r (now (rows .exit)) (now (columns .exit)) (now (mates .exit)) ⌝ }
+{
+    let used = s.used;
+    rows[used] = row;
+    mates[used] = 0;
+    let heavy = enter_light(s.entered, s.heavy, &rows[..used], columns);
+    let end = used + 1;
+    let mut asked: u64 = 0;
+    let v = search(
+        s.free,
+        &rows[..end],
+        columns,
+        sets::with(heavy, used),
+        &mut mates[..end],
+        &mut asked,
+    );
+    if v < 64 {
+        return taken(
+            Seats {
+                d: s.d,
+                used,
+                entered: used,
+                free: s.free,
+                dead: s.dead,
+                heavy,
+            },
+            v,
+        );
+    }
+    let dead = unreached(asked, &mates[..used]);
+    Seats {
+        d: s.d,
+        used,
+        entered: used,
+        free: s.free,
+        dead,
+        heavy,
+    }
+}
+
+// The row gets a seat where that makes the pairing larger: then one seat more is used.
+pub fn seat(row: u64, s: Seats, rows: &mut [u64], columns: &mut [u64], mates: &mut [usize]) -> Seats
+    requires { ⌜ Sitting s (now rows) (now columns) (now mates) × Below (s .d) row ⌝ }
+    ensures { λ r. ⌜ OfSeat row s (now (rows .entry)) r (now (rows .exit)) (now (columns .exit)) (now (mates .exit)) ⌝ }
+{
+    let used = s.used;
+    let free = s.free;
+    if free == 0 {
+        return s;
+    }
+    if sets::subset(row, s.dead) {
+        return s;
+    }
+    let near = row & free;
+    if near == 0 {
+        return seek(row, s, rows, columns, mates);
+    }
+    let v = sets::lowest(near);
+    rows[used] = row;
+    mates[used] = v + 1;
+    taken(s, v)
 }

@@ -1,0 +1,192 @@
+-- What a row more does to the seats: it gets a seat, or the values that no search reached are dead; and a row of dead values makes no pairing larger. Assumes nothing.
+use Prim.Native.Nat.{ℕ, zero, suc, _+_, _≤_, _<_}
+use mathlib.Core.Path.{_≡_, refl, sym, ap, _∙_, subst}
+use mathlib.Core.Logic.{_⊎_, inl, inr}
+use mathlib.Core.Bool.{Bool, true, false, not}
+use mathlib.Core.List.{List, [], _∷_, _++_}
+use native.Mathlib.Nat.{suc-inj}
+use native.Mathlib.Omega.{arith}
+use lib.Bits.{bitOr}
+use lib.ListN.{length, set, length-append}
+use lib.Seq.{set-append-seam}
+use borrow.Author.Tests.{not-true}
+use Rattle.sets.specs.Sets.{has, single}
+use Rattle.sets.proofs.Bools.{true-or-false, not-both, is-false}
+use Rattle.sets.proofs.Values.{has-empty, has-same, minus-out}
+use Rattle.theory.specs.Pairings.{size, at, In, Seated, Largest}
+use Rattle.theory.specs.Search.{Heard}
+use Rattle.theory.proofs.Places.{not-mate, past, seated?}
+use Rattle.theory.proofs.Sizes.{size-by-d}
+use Rattle.theory.proofs.FailedSearch.{failed-largest}
+use Rattle.pairing.specs.declared.seats.Seats.{Seats}
+use Rattle.pairing.specs.Asking.{Inside, Index, Shut, Asks, Searches, Grown, OfSearch}
+use Rattle.pairing.specs.Seats.{Unreached, Below, Bench, taking}
+use Rattle.pairing.proofs.AskSteps.{row-free}
+use Rattle.pairing.proofs.SeatColumns.{left-or-same}
+use Rattle.pairing.proofs.Snoc.{at-open, size-open, seated-open, open-seated, full-mate, row-last, holds-cases, holds-before, pairing-open, shut-open, index-open}
+
+-- a mate that is not dead
+aliveMate : ℕ → ℕ → Bool
+aliveMate dead zero = false
+aliveMate dead (suc w) = not (has dead w)
+
+alive-in : (dead n w : ℕ) → n ≡ suc w → has dead w ≡ false → aliveMate dead n ≡ true
+unfolding aliveMate
+alive-in dead n w e f = ap (aliveMate dead) e ∙ ap not f
+
+alive-out : (dead n : ℕ) → aliveMate dead n ≡ true → (w : ℕ) × (n ≡ suc w) × (has dead w ≡ false)
+unfolding aliveMate
+alive-out dead zero a = absurd (not-both a refl)
+alive-out dead (suc w) a = (w, refl, not-true (has dead w) a)
+
+module _ (s : Seats) (R columns p : List ℕ) (B : Bench s R columns p) where
+  -- where a value is free there is a seat for a row more
+  pub seat-left : (v : ℕ) → has (s .free) v ≡ true → length R < 64
+  unfolding size
+  seat-left v t = omega (arith, B .full, below)
+    where
+      single-place : (i j u : ℕ) → at (suc v ∷ p) i ≡ suc u → at (suc v ∷ p) j ≡ suc u → i ≡ j
+      single-place zero zero u e f = refl
+      single-place zero (suc j) u e f = absurd (B .new v t .1 (j, f ∙ sym e))
+      single-place (suc i) zero u e f = absurd (B .new v t .1 (i, e ∙ sym f))
+      single-place (suc i) (suc j) u e f = ap suc (B .pairing .apart i j u e f)
+
+      small : (i u : ℕ) → at (suc v ∷ p) i ≡ suc u → u < 64
+      small zero u e = omega (arith, e, B .new v t .0, B .column)
+      small (suc i) u e = B .pairing .holds i u e .0
+
+      below : suc (size p) ≤ 64
+      below = size-by-d 64 (suc v ∷ p) single-place small
+
+  -- a value that is free is not dead
+  free-alive : (v : ℕ) → has (s .free) v ≡ true → has (s .dead) v ≡ false
+  free-alive v t = is-false (has (s .dead) v) (λ e. let k = B .shut v e in B .new v t .1 (k .0, k .1))
+
+  module _ (row : ℕ) (low : Below (s .d) row) where
+    -- a value of a row, the new one among them, is below d
+    below : (i v : ℕ) → has (at (R ++ row ∷ []) i) v ≡ true → v < s .d
+    below i v t = elim (holds-cases R row i v t) [ inl b ↦ B .small i v (b .1) | inr e ↦ low v (e .1) ]
+
+    -- ---- a row of dead values, or no value that is free: no pairing with the row is larger
+
+    holder-alive : (i v : ℕ) → i < length R → has (at R i) v ≡ true → has (s .dead) v ≡ false → aliveMate (s .dead) (at p i) ≡ true
+    holder-alive i v h t n =
+        let m = full-mate p (omega (arith, B .full, B .pairing .fits)) i (omega (arith, h, B .pairing .fits)) in
+        alive-in (s .dead) (at p i) (m .0) (m .1) (is-false (has (s .dead) (m .0)) (λ e.
+        let k = B .shut (m .0) e in
+        let same : k .0 ≡ i = B .pairing .apart (k .0) i (m .0) (k .1) (m .1) in
+        not-both (k .2 v (ap (λ (j : ℕ). has (at R j) v) same ∙ t)) n))
+
+    dead-largest : Inside row (s .dead) → Largest 64 (R ++ row ∷ []) (p ++ zero ∷ [])
+    dead-largest ins = failed-largest 64 (R ++ row ∷ []) (p ++ zero ∷ []) (pairing-open R row p (B .pairing)) (λ i. aliveMate (s .dead) (at p i)) closed tried
+      where
+        heard : (v : ℕ) → has (s .dead) v ≡ false → Heard 64 (R ++ row ∷ []) (λ i. aliveMate (s .dead) (at p i)) v
+        heard v n j inn = elim (holds-cases R row j v (inn .1)) [
+          | inl b ↦ holder-alive j v (b .0) (b .1) n
+          | inr e ↦ absurd (not-both (ins v (e .1)) n)
+        ]
+
+        closed : (i : ℕ) → aliveMate (s .dead) (at p i) ≡ true → (w : ℕ) × (at (p ++ zero ∷ []) i ≡ suc w) × Heard 64 (R ++ row ∷ []) (λ i. aliveMate (s .dead) (at p i)) w
+        closed i a = let k = alive-out (s .dead) (at p i) a in (k .0, at-open p i ∙ k .1, heard (k .0) (k .2))
+
+        tried : (v : ℕ) → v < 64 → (Seated (p ++ zero ∷ []) v → ⊥) → Heard 64 (R ++ row ∷ []) (λ i. aliveMate (s .dead) (at p i)) v
+        tried v h none = heard v (is-false (has (s .dead) v) (λ e. let k = B .shut v e in none (open-seated p v (k .0, k .1))))
+
+    full-largest : s .free ≡ zero → Largest 64 (R ++ row ∷ []) (p ++ zero ∷ [])
+    full-largest z =
+        failed-largest 64 (R ++ row ∷ []) (p ++ zero ∷ []) (pairing-open R row p (B .pairing)) (λ i. false) (λ i a. absurd (not-both a refl))
+        (λ v h none i inn. absurd (not-both (B .free v (below i v (inn .1)) (λ q. none (open-seated p v q))) (ap (λ (x : ℕ). has x v) z ∙ has-empty v)))
+
+    pub passed-largest : Inside row (s .dead) ⊎ (s .free ≡ zero) → Largest 64 (R ++ row ∷ []) (p ++ zero ∷ [])
+    passed-largest (inl ins) = dead-largest ins
+    passed-largest (inr z) = full-largest z
+
+    -- ---- the row gets a seat
+
+    pub bench-more : (v : ℕ) → has (s .free) v ≡ true → (p′ : List ℕ) → Grown (R ++ row ∷ []) v (p ++ zero ∷ []) p′ → Bench (taking s v) (R ++ row ∷ []) columns p′
+    bench-more v t p′ G = record {
+      used = let e : length (R ++ row ∷ []) ≡ length R + 1 = length-append R (row ∷ []) in omega (arith, B .used);
+      column = B .column;
+      pairing = G .pairing;
+      full = let e : length (R ++ row ∷ []) ≡ length R + 1 = length-append R (row ∷ []) in omega (arith, G .larger, size-open p, B .full);
+      small = below;
+      new = λ u h.
+          let k = minus-out (s .free) (single v) u h in (
+            B .new u (k .0) .0,
+            λ q. elim (G .from u q) [
+              | inl e ↦ not-both (ap (has (single v)) e ∙ has-same v) (k .1)
+              | inr old ↦ B .new u (k .0) .1 (seated-open p u old)
+            ],
+          );
+      free = λ u h none. elim (left-or-same (s .free) v u (B .free u h (λ q. none (G .there u (open-seated p u q))))) [
+        | inl e ↦ absurd (none (subst (Seated p′) (sym e) (G .seated)))
+        | inr m ↦ m
+      ];
+      shut = G .shut (s .dead) (shut-open R row p (s .dead) (B .pairing) (B .shut)) (free-alive v t);
+      index = subst (λ (n : ℕ). Index (R ++ row ∷ []) columns (bitOr (s .heavy) (single n))) (B .used) (index-open R row columns (s .heavy) (B .index));
+    }
+
+    -- what a search may rely on; the rows may have gone into columns before
+    pub bench-searches : (columns′ : List ℕ) (heavy′ : ℕ) → length R < 64 → Index R columns′ heavy′
+        → Searches (s .free) (R ++ row ∷ []) columns′ (bitOr heavy′ (single (length R))) (p ++ zero ∷ [])
+    bench-searches columns′ heavy′ room X = record {
+      few = let e : length (R ++ row ∷ []) ≡ length R + 1 = length-append R (row ∷ []) in omega (arith, room);
+      index = index-open R row columns′ heavy′ X;
+      pairing = pairing-open R row p (B .pairing);
+      new = λ u h q. B .new u h .1 (seated-open p u q);
+    }
+
+    -- a free value that the row holds goes to it at once
+    pub bench-direct : (v : ℕ) → has (s .free) v ≡ true → has row v ≡ true → Grown (R ++ row ∷ []) v (p ++ zero ∷ []) (p ++ (v + 1) ∷ [])
+    bench-direct v t h =
+        subst (Grown (R ++ row ∷ []) v (p ++ zero ∷ [])) put
+        (row-free v (R ++ row ∷ []) columns (bitOr (s .heavy) (single (length R))) (p ++ zero ∷ []) asks (length R) last (ap (λ (r : ℕ). has r v) (row-last R row) ∙ h) free-seat)
+      where
+        S : Searches (s .free) (R ++ row ∷ []) columns (bitOr (s .heavy) (single (length R))) (p ++ zero ∷ [])
+        S = bench-searches columns (s .heavy) (seat-left v t) (B .index)
+
+        asks : Asks v (R ++ row ∷ []) columns (bitOr (s .heavy) (single (length R))) (p ++ zero ∷ [])
+        asks = record { small = omega (arith, B .new v t .0, B .column); few = S .few; index = S .index; pairing = S .pairing; new = S .new v t }
+
+        last : length R < length (R ++ row ∷ [])
+        last = let e : length (R ++ row ∷ []) ≡ length R + 1 = length-append R (row ∷ []) in omega arith
+
+        free-seat : at (p ++ zero ∷ []) (length R) ≡ zero
+        free-seat = at-open p (length R) ∙ past p (length R) (omega (arith, B .pairing .fits))
+
+        put : set (p ++ zero ∷ []) (length R) (v + 1) ≡ p ++ (v + 1) ∷ []
+        put = ap (λ (n : ℕ). set (p ++ zero ∷ []) n (v + 1)) (sym (B .pairing .fits)) ∙ set-append-seam p zero [] (v + 1)
+
+    -- ---- a search has failed
+
+    module _ (r : ℕ) (p′ : List ℕ) (asked dead′ : ℕ) (O : OfSearch r (s .free) (R ++ row ∷ []) (p ++ zero ∷ []) p′ asked) (none : 64 ≤ r) (D : Unreached asked p dead′) where
+      -- the values of a row that was not asked are those that no question reached
+      unasked-dead : (j v : ℕ) → has asked j ≡ false → has (at (R ++ row ∷ []) j) v ≡ true → has dead′ v ≡ true
+      unasked-dead j v n t = elim (seated? p v) [
+        | inr free ↦ absurd (not-both (O .heard none v (B .free v (below j v t) free) j (small, t)) n)
+        | inl q ↦ elim (true-or-false (has asked (q .0))) [
+          | inl a ↦
+              let k = O .closed none (q .0) a in
+              let same : k .0 ≡ v = suc-inj (sym (k .1) ∙ at-open p (q .0) ∙ q .1) in
+              absurd (not-both (k .2 j (subst (λ (u : ℕ). In 64 (at (R ++ row ∷ []) j) u) (sym same) (small, t))) n)
+          | inr f ↦ D .all (q .0) v (q .1) f
+        ]
+      ]
+        where
+          small : v < 64
+          small = omega (arith, below j v t, B .column)
+
+      pub failed-shut : Shut R p dead′
+      failed-shut u t = let k = D .only u t in (k .0, k .1, λ v h. unasked-dead (k .0) v (k .2) (holds-before R row (k .0) v h))
+
+      pub failed-row : Inside row dead′
+      failed-row v h = unasked-dead (length R) v last (ap (λ (x : ℕ). has x v) (row-last R row) ∙ h)
+        where
+          last : has asked (length R) ≡ false
+          last = is-false (has asked (length R)) (λ a. let k = O .closed none (length R) a in not-mate (at-open p (length R) ∙ past p (length R) (omega (arith, B .pairing .fits))) (k .1))
+
+  -- the same seats, with another index and other dead values
+  pub bench-other : (columns′ : List ℕ) (entered′ heavy′ dead′ : ℕ) → Index R columns′ heavy′ → Shut R p dead′
+      → Bench (record { d = s .d; used = s .used; entered = entered′; free = s .free; dead = dead′; heavy = heavy′ }) R columns′ p
+  bench-other columns′ entered′ heavy′ dead′ X S =
+      record { used = B .used; column = B .column; pairing = B .pairing; full = B .full; small = B .small; new = B .new; free = B .free; shut = S; index = X }
