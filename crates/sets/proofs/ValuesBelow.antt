@@ -1,20 +1,20 @@
 -- Sets with no value d or above: smaller than 2 ^ d, and the other way; a set that is not empty has a value. Assumes nothing.
-use Prim.Native.Nat.{ℕ, zero, suc, _/_, _%_, _^_, _<_}
+use Prim.Native.Nat.{ℕ, zero, suc, _-_, _*_, _/_, _%_, _^_, _<_}
 use mathlib.Core.Path.{_≡_, refl, sym, ap, _∙_, subst}
 use mathlib.Core.Logic.{_≢_, _⊎_, inl, inr}
 use mathlib.Core.Bool.{true, false, not, false≢true}
 use mathlib.Core.List.{List, [], _∷_, List·Memᴰ, List·Memᴰ·head, List·Memᴰ·tail}
-use native.Mathlib.Nat.{div-eq-of-lt, lt-of-lt-of-le, div-lt-iff-lt-mul, pow-suc, zero-lt-suc}
+use native.Mathlib.Nat.{not-suc-le-zero, le-of-suc-le-suc, div-eq-of-lt, lt-of-lt-of-le, div-lt-iff-lt-mul, pow-suc, zero-lt-suc}
 use native.Mathlib.Decide.{decLt}
 use native.Mathlib.Omega.{arith}
 use lib.Arith.{bin-ind}
 use lib.Bits.{or-lt}
 use lib.Dec.{eqb}
-use lib.Pow.{pow-mono, pow-pos}
+use lib.Pow.{pow-mono, pow-pos, ones-lt}
 use borrow.Author.Tests.{lt-ltb, ltb-true, eqb-false, ne-eqb, not-true}
 use Rattle.sets.specs.Sets.{has, union, minus, below, within}
 use Rattle.sets.proofs.Bools.{and-left, and-right, and-both, true-or-false, not-both}
-use Rattle.sets.proofs.Values.{has-empty, has-suc, minus-out, set-ext}
+use Rattle.sets.proofs.Values.{has-empty, has-zero, has-suc, minus-out, set-ext}
 
 -- ---- by numbers
 
@@ -47,6 +47,19 @@ less-has zero r f = subst (λ (x : ℕ). x < 1) (set-ext zero r none) (zero-lt-s
     ]
 less-has (suc d) r f =
     rw pow-suc (div-lt-iff-lt-mul (zero-lt-suc 1) .0 (less-has d (r / 2) (λ v e. omega (arith, f (suc v) (has-suc r v ∙ e)))))
+
+-- ---- all values below d
+
+all-half : (k : ℕ) → ((2 ^ suc k - 1) / 2 ≡ 2 ^ k - 1) × ((2 ^ suc k - 1) % 2 ≡ 1)
+all-half k = let double : 2 ^ suc k ≡ 2 ^ k * 2 = pow-suc 2 k in (omega (arith, pow-pos k), omega (arith, pow-pos k))
+
+pub all-has : (d v : ℕ) → v < d → has (2 ^ d - 1) v ≡ true
+all-has zero v h = absurd (not-suc-le-zero h)
+all-has (suc d) zero h = has-zero (2 ^ suc d - 1) ∙ ap (λ (x : ℕ). eqb x 1) (all-half d .1)
+all-has (suc d) (suc v) h = has-suc (2 ^ suc d - 1) v ∙ ap (λ (x : ℕ). has x v) (all-half d .0) ∙ all-has d v (le-of-suc-le-suc h)
+
+pub has-all : (d v : ℕ) → has (2 ^ d - 1) v ≡ true → v < d
+has-all d v t = has-less d (2 ^ d - 1) v (ones-lt d) t
 
 -- ---- a value of a set that is not empty
 

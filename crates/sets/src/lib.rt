@@ -1,6 +1,6 @@
 // Rows as sets of values: the leaf functions on one row, and the lowest bad row of a table.
 ghost use mathlib.Core.Path.{_≡_};
-ghost use Prim.Native.Nat.{_-_, _<_};
+ghost use Prim.Native.Nat.{_-_, _^_, _<_, _≤_};
 ghost use lib.Bits.{bitOr};
 ghost use lib.Count.{trailingZeros, leadingZeros};
 ghost use Rattle.sets.specs.Sets.{has, single, subset, proper, minus, below, within};
@@ -48,6 +48,18 @@ pub fn without(set: u64, v: usize) -> u64
     ensures { λ r. ⌜ r ≡ minus set (single v) ⌝ }
 {
     minus(set, 1 << v)
+}
+
+// The set of all values below d.
+pub fn all(d: usize) -> u64
+    requires { ⌜ d ≤ 64 ⌝ }
+    ensures { λ r. ⌜ r ≡ 2 ^ d - 1 ⌝ }
+{
+    if d < 64 {
+        (1 << d) - 1
+    } else {
+        0xffff_ffff_ffff_ffff
+    }
 }
 
 // The lowest value of the set, and 64 where it has none.

@@ -24,26 +24,26 @@ use Rattle.theory.proofs.Marks.{Fewer, mark-same, mark-keeps, mark-case
 -- ---- the rows that have mates
 
 -- a mark where p has a mate
-seats : List ℕ → List Bool
-seats p = map (λ (x : ℕ). not (eqb x zero)) p
+pub mated : List ℕ → List Bool
+mated p = map (λ (x : ℕ). not (eqb x zero)) p
 
-seats-at : (p : List ℕ) (i : ℕ) → marked (seats p) i ≡ not (eqb (at p i) zero)
-unfolding seats
-seats-at p i = List·getD-map (λ (x : ℕ). not (eqb x zero)) p i zero
+mated-at : (p : List ℕ) (i : ℕ) → marked (mated p) i ≡ not (eqb (at p i) zero)
+unfolding mated
+mated-at p i = List·getD-map (λ (x : ℕ). not (eqb x zero)) p i zero
 
-seats-in : (p : List ℕ) (i v : ℕ) → at p i ≡ suc v → marked (seats p) i ≡ true
-seats-in p i v e = seats-at p i ∙ ap not (ne-eqb (at p i) zero (λ z. not-mate z e))
+pub mated-in : (p : List ℕ) (i v : ℕ) → at p i ≡ suc v → marked (mated p) i ≡ true
+mated-in p i v e = mated-at p i ∙ ap not (ne-eqb (at p i) zero (λ z. not-mate z e))
 
-seats-out : (p : List ℕ) (i : ℕ) → marked (seats p) i ≡ true → (v : ℕ) × (at p i ≡ suc v)
-seats-out p i e = go (mate? (at p i))
+pub mated-out : (p : List ℕ) (i : ℕ) → marked (mated p) i ≡ true → (v : ℕ) × (at p i ≡ suc v)
+mated-out p i e = go (mate? (at p i))
   where
     go : Mate (at p i) → (v : ℕ) × (at p i ≡ suc v)
-    go (inl z) = absurd (not-both e (seats-at p i ∙ ap not (eq-eqb (at p i) zero z)))
+    go (inl z) = absurd (not-both e (mated-at p i ∙ ap not (eq-eqb (at p i) zero z)))
     go (inr t) = t
 
-length-seats : (p : List ℕ) → length (seats p) ≡ length p
-unfolding seats
-length-seats p = length-map p (λ (x : ℕ). not (eqb x zero))
+pub length-mated : (p : List ℕ) → length (mated p) ≡ length p
+unfolding mated
+length-mated p = length-map p (λ (x : ℕ). not (eqb x zero))
 
 module _ (d : ℕ) (view : List ℕ) where
   -- the rank of the marked rows
@@ -67,7 +67,7 @@ module _ (d : ℕ) (view : List ℕ) where
       xn = omega (arith, xp, P .fits, N .fits, length-mask ms view)
 
       seen : List Bool
-      seen = set (seats n) x true
+      seen = set (mated n) x true
 
       q : List ℕ
       q = mask seen p
@@ -80,18 +80,18 @@ module _ (d : ℕ) (view : List ℕ) where
       }
 
       on-marks : (i v : ℕ) → at q i ≡ suc v → marked (set ms x true) i ≡ true
-      on-marks i v e = elim (mark-cases (seats n) x i (mask-out seen p i v e .0)) [
+      on-marks i v e = elim (mark-cases (mated n) x i (mask-out seen p i v e .0)) [
         | inl s ↦ ap (marked (set ms x true)) s ∙ mark-same ms x (omega (arith, xp, P .fits, fits))
-        | inr b ↦ let t = seats-out n i b in mark-keeps ms x i (pairing-marked d view n ms N i (t .0) (t .1))
+        | inr b ↦ let t = mated-out n i b in mark-keeps ms x i (pairing-marked d view n ms N i (t .0) (t .1))
       ]
 
       at-x : at q x ≡ suc w
-      at-x = at-marked seen p x (mark-same (seats n) x (omega (arith, xn, length-seats n))) ∙ px
+      at-x = at-marked seen p x (mark-same (mated n) x (omega (arith, xn, length-mated n))) ∙ px
 
       places : (i v : ℕ) → at (set n x (suc w)) i ≡ suc v → (u : ℕ) × (at q i ≡ suc u)
       places i v e = elim (stored n x (suc w) i xn) [
         | inl s ↦ (w, ap (at q) (s .0) ∙ at-x)
-        | inr s ↦ let t = up i v (sym (s .1) ∙ e) in (t .0, at-marked seen p i (mark-keeps (seats n) x i (seats-in n i v (sym (s .1) ∙ e))) ∙ t .1)
+        | inr s ↦ let t = up i v (sym (s .1) ∙ e) in (t .0, at-marked seen p i (mark-keeps (mated n) x i (mated-in n i v (sym (s .1) ∙ e))) ∙ t .1)
       ]
 
       larger : size n < size q

@@ -1,12 +1,14 @@
 -- What a reader looks for, then what it stands on, lowest last.
 -- `CasesHold`: P1 to P10, computed. `FamilyIff`: Lemma 3.4. `KeptFamily`, `KeptFewest`: demand 2.
--- `NextRow`, `FailedSearch`: what the code needs of pairings that grow.
+-- `KeptAnyD`: the kept positions follow from the rows alone. `NextRow`, `FailedSearch`, `PlacedRows`: what the code needs of pairings that grow.
 pub mod CasesHold
 pub mod FamilyIff
 pub mod KeptFamily
 pub mod KeptFewest
+pub mod KeptAnyD
 pub mod NextRow
 pub mod FailedSearch
+pub mod PlacedRows
 -- `KeptRows`: the rows at the kept positions. `FamilyByRank`: Theorem 3.6, another way. `SameFamilies`: what a common family says of two lists.
 -- `GreedyRank`: the second step comes to the view's rank. `MinimalRows`: the first step. `SwapValues`, `SwapRows`: the two exchange lemmas.
 pub mod KeptRows

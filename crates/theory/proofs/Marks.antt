@@ -214,7 +214,7 @@ pick-more a b rows x sub m =
     let t = pick-out a rows x m in
     subst (λ (y : ℕ). List·Memᴰ y (pick b rows)) (sym (t .3)) (pick-in b rows (t .0) (t .1) (sub (t .0) (t .2)))
 
-mem-at : (l : List ℕ) (i : ℕ) → i < length l → List·Memᴰ (at l i) l
+pub mem-at : (l : List ℕ) (i : ℕ) → i < length l → List·Memᴰ (at l i) l
 mem-at [] i h = absurd (not-suc-le-zero h)
 mem-at (x ∷ l) zero h = List·Memᴰ·head refl
 mem-at (x ∷ l) (suc i) h = List·Memᴰ·tail (mem-at l i (le-of-suc-le-suc h))

@@ -14,6 +14,7 @@ use Rattle.sets.proofs.Bools.{or-left, or-right, and-left, and-right, and-both,
 use Rattle.sets.proofs.Subsets.{proper-subset, proper-less, subset-refl, subset-trans}
 use Rattle.theory.specs.Pairings.{among, at}
 use Rattle.theory.specs.Kept.{marked, pick, minimal, firstsAfter, firsts, minimals}
+use Rattle.theory.specs.Search.{Different}
 use Rattle.theory.proofs.Places.{descend}
 
 -- ---- minimal rows
@@ -108,11 +109,6 @@ after-out view before (r ∷ rows) x m = go (λ k. after-out view (r ∷ before)
         → List·Memᴰ x (pick (b ∷ firstsAfter view (r ∷ before) rows) (r ∷ rows)) → Fresh view before x
     go rec true g k = elim (List·Memᴰ·cases-cons k) [ inl s ↦ this g s | inr l ↦ later (rec l) ]
     go rec false g k = later (rec k)
-
--- no number twice
-abbrev pub Different : List ℕ → Type 0
-Different [] = Unit {0}
-Different (x ∷ l) = (List·Memᴰ x l → ⊥) × Different l
 
 after-different : (view before rows : List ℕ) → Different (pick (firstsAfter view before rows) rows)
 unfolding firstsAfter pick among

@@ -1,15 +1,18 @@
 -- What a largest pairing of the rows kept so far says of the next row. A row raises the rank by at most one: so a larger pairing of the kept rows and it is a largest one,
 -- and the row is kept; where the pairing at hand is still a largest one with it, the row is not. Assumes nothing.
-use Prim.Native.Nat.{ℕ, zero, suc, _≤_, _<_}
-use mathlib.Core.Path.{_≡_, ap, _∙_}
+use Prim.Native.Nat.{ℕ, zero, suc, _+_, _≤_, _<_}
+use mathlib.Core.Path.{_≡_, sym, ap, _∙_}
 use mathlib.Core.Logic.{inl, inr}
-use mathlib.Core.Bool.{Bool, true, cond}
+use mathlib.Core.Bool.{Bool, true, false, cond}
 use mathlib.Core.List.{List}
+use native.Mathlib.Nat.{add-zero, add-suc, suc-add}
 use native.Mathlib.Omega.{arith}
+use lib.Dec.{ltb}
 use lib.ListN.{length, set}
+use lib.Seq.{set-getD}
 use borrow.Author.Tests.{lt-ltb, le-ltb}
 use Rattle.theory.specs.Pairings.{size, rank, at, Pairing, Largest}
-use Rattle.theory.specs.Kept.{marked, pick, try}
+use Rattle.theory.specs.Kept.{marked, pick, try, tries}
 use Rattle.theory.specs.Search.{mask}
 use Rattle.theory.proofs.Places.{Mate, mate?, not-mate, at-less, at-same, size-less}
 use Rattle.theory.proofs.PairingSteps.{pairing-drop}
@@ -71,3 +74,19 @@ module _ (d : ℕ) (view : List ℕ) where
         ap (λ (b : Bool). cond b (set ms x true) ms)
         (le-ltb (rank d (pick ms view)) (rank d (pick (set ms x true) view))
         (omega (arith, largest-rank, rank-mask d ms view, rank-mask d (set ms x true) view, h .2, M (h .0) (h .1))))
+
+  -- ---- tries in turn
+
+  -- a row that is marked already is passed by
+  pub try-marked : (ms : List Bool) (i : ℕ) → marked ms i ≡ true → try d view ms i ≡ ms
+  unfolding try
+  try-marked ms i t = ap (λ (l : List Bool). cond (ltb (rank d (pick ms view)) (rank d (pick l view))) l ms) same ∙ ap (λ (b : Bool). cond b ms ms) (le-ltb (rank d (pick ms view)) (rank d (pick ms view)) (omega arith))
+    where
+      same : set ms i true ≡ ms
+      same = ap (set ms i) (sym t) ∙ set-getD ms i false
+
+  -- one row more is tried at the end
+  pub tries-next : (n i : ℕ) (ms : List Bool) → tries d view (suc n) i ms ≡ try d view (tries d view n i ms) (i + n)
+  unfolding tries
+  tries-next zero i ms = ap (try d view ms) (sym (add-zero i))
+  tries-next (suc n) i ms = tries-next n (suc i) (try d view ms i) ∙ ap (try d view (tries d view n (suc i) (try d view ms i))) (suc-add i n ∙ sym (add-suc i n))

@@ -3,8 +3,10 @@
 use Prim.Native.Nat.{ℕ, zero, suc, _<_}
 use mathlib.Core.Path.{_≡_}
 use mathlib.Core.Bool.{Bool, true, false}
-use mathlib.Core.List.{List, [], _∷_}
-use Rattle.theory.specs.Pairings.{at, In, Seated}
+use mathlib.Core.List.{List, [], _∷_, List·Memᴰ}
+use lib.ListN.{length}
+use Rattle.theory.specs.Pairings.{rank, at, In, Seated}
+use Rattle.theory.specs.Kept.{marked, pick}
 
 -- the marked rows of a view at their places, and an empty row, which no pairing can use, at the others
 unfoldable pub mask : List Bool → List ℕ → List ℕ
@@ -24,3 +26,15 @@ Closed d rows p asked = (i : ℕ) → asked i ≡ true → (w : ℕ) × (at p i 
 -- every value that has no row has asked all the rows that hold it
 abbrev pub Tried : ℕ → List ℕ → List ℕ → (ℕ → Bool) → Type 0
 Tried d rows p asked = (v : ℕ) → v < d → (Seated p v → ⊥) → Heard d rows asked v
+
+-- no number twice
+abbrev pub Different : List ℕ → Type 0
+Different [] = Unit {0}
+Different (x ∷ l) = (List·Memᴰ x l → ⊥) × Different l
+
+-- the rows at the places `is`, different marked rows of a view, are as many as the rank of the marked rows
+pub record Stands (d : ℕ) (view : List ℕ) (ms : List Bool) (is : List ℕ) : Type 0 where
+  pub fits : length ms ≡ length view
+  pub apart : Different is
+  pub marked-all : (i : ℕ) → List·Memᴰ i is → marked ms i ≡ true
+  pub ranks : rank d (pick ms view) ≡ length is

@@ -1,0 +1,41 @@
+-- Sets with and without a value in common; the rows that have no value of `singles` are the clear ones. Assumes nothing.
+use Prim.Native.Nat.{ℕ, zero}
+use mathlib.Core.Path.{_≡_, sym, ap, _∙_}
+use mathlib.Core.Logic.{_≢_}
+use mathlib.Core.Bool.{true}
+use mathlib.Core.List.{List}
+use lib.Bits.{bitAnd}
+use lib.ListN.{length}
+use borrow.Author.Tests.{eqb-true}
+use Rattle.sets.specs.Sets.{has, single, subset}
+use Rattle.sets.proofs.Bools.{and-left, and-right, and-both, not-both}
+use Rattle.sets.proofs.Values.{has-and, has-empty, has-single}
+use Rattle.sets.proofs.Subsets.{subset-has}
+use Rattle.sets.proofs.ValuesBelow.{some-value}
+use Rattle.minimal.specs.Marking.{Singles, Clear}
+
+-- ---- two sets
+
+pub apart : (a b : ℕ) → bitAnd a b ≡ zero → (v : ℕ) → has a v ≡ true → has b v ≡ true → ⊥
+apart a b e v p q = not-both (has-and a b v ∙ and-both (has a v) (has b v) p q) (ap (λ (x : ℕ). has x v) e ∙ has-empty v)
+
+pub common : (a b : ℕ) → bitAnd a b ≢ zero → (v : ℕ) × (has a v ≡ true) × (has b v ≡ true)
+common a b ne =
+    let t = some-value (bitAnd a b) ne in
+    let both = sym (has-and a b (t .0)) ∙ t .1 in
+    (t .0, and-left (has a (t .0)) (has b (t .0)) both, and-right (has a (t .0)) (has b (t .0)) both)
+
+pub single-only : (u v : ℕ) → has (single u) v ≡ true → u ≡ v
+single-only u v e = eqb-true u v (sym (has-single u v) ∙ e)
+
+-- ---- clear rows
+
+module _ (rows : List ℕ) (s : ℕ) (S : Singles rows (length rows) s) (r : ℕ) where
+  pub apart-clear : bitAnd r s ≡ zero → Clear rows r
+  apart-clear e v h alone = apart r s e v h (S .all v alone)
+
+  pub common-not-clear : bitAnd r s ≢ zero → Clear rows r → ⊥
+  common-not-clear ne clear = let t = common r s ne in clear (t .0) (t .1) (S .from (t .0) (t .2))
+
+pub subset-clear : (rows : List ℕ) (a b : ℕ) → subset a b ≡ true → Clear rows b → Clear rows a
+subset-clear rows a b e clear v h = clear v (subset-has a b e v h)

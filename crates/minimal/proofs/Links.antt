@@ -1,0 +1,110 @@
+-- The chains are made from the last row on: each clear row goes in front of the chain of those with as many values. Assumes nothing.
+use Prim.Native.Nat.{ℕ, zero, _+_, _≤_, _<_}
+use mathlib.Core.Path.{_≡_, refl, sym, _∙_, subst}
+use mathlib.Core.List.{List}
+use native.Mathlib.Decide.{ℕ-discrete}
+use native.Mathlib.Omega.{arith}
+use lib.Count.{ones}
+use lib.ListN.{length, set, length-set, replicate, getD-replicate}
+use Rattle.theory.specs.Pairings.{at}
+use Rattle.theory.proofs.Places.{at-same, at-other}
+use Rattle.minimal.specs.Marking.{Clear, InChain, FirstFrom, Past, Chains, Spans}
+
+-- ---- the start
+
+pub heads-past : (rows : List ℕ) → length rows ≤ 320 → Past rows (replicate 65 320)
+heads-past rows l k h = omega (arith, getD-replicate 65 k 320 zero h)
+
+pub chains-start : (rows next head : List ℕ) → length rows ≤ length next → length head ≡ 65 → Past rows head → Chains rows next head (length rows)
+chains-start rows next head l w past = record {
+  long = l;
+  wide = w;
+  heads = λ k h. let p = past k h in record { from = p; gap = λ j a b c. absurd (omega arith); hit = λ b. absurd (omega arith) };
+  links = λ i a b. absurd (omega arith);
+}
+
+pub spans-start : (rows : List ℕ) → Spans rows (length rows) 64 0
+spans-start rows = record { top = omega arith; least = λ j a b. absurd (omega arith); most = λ j a b. absurd (omega arith) }
+
+-- ---- one row
+
+module _ (rows : List ℕ) (t u : ℕ) (e : t ≡ u + 1) where
+  -- place u is put in front of what begins at place t, where row u is not in the chain
+  first-down : (k x : ℕ) → (InChain rows k u → ⊥) → FirstFrom rows k t x → FirstFrom rows k u x
+  first-down k x out F = record {
+    from = omega (arith, F .from);
+    gap = λ j a b l. elim (ℕ-discrete j u) [
+      | yes q ↦ λ c. out (subst (InChain rows k) q c)
+      | no ne ↦ F .gap j (omega arith) b l
+    ];
+    hit = F .hit;
+  }
+
+  -- row u is not clear
+  pub chains-skip : (next head : List ℕ) → (Clear rows (at rows u) → ⊥) → Chains rows next head t → Chains rows next head u
+  chains-skip next head dim C = record {
+    long = C .long;
+    wide = C .wide;
+    heads = λ k h. first-down k (at head k) (λ c. dim (c .0)) (C .heads k h);
+    links = λ i a b. elim (ℕ-discrete i u) [
+      | yes q ↦ λ c. absurd (dim (subst (λ (x : ℕ). Clear rows (at rows x)) q c))
+      | no ne ↦ C .links i (omega arith) b
+    ];
+  }
+
+  pub spans-skip : (low high : ℕ) → (Clear rows (at rows u) → ⊥) → Spans rows t low high → Spans rows u low high
+  spans-skip low high dim S = record {
+    top = S .top;
+    least = λ j a b. elim (ℕ-discrete j u) [
+      | yes q ↦ λ c. absurd (dim (subst (λ (x : ℕ). Clear rows (at rows x)) q c))
+      | no ne ↦ S .least j (omega arith) b
+    ];
+    most = λ j a b. elim (ℕ-discrete j u) [
+      | yes q ↦ λ c. absurd (dim (subst (λ (x : ℕ). Clear rows (at rows x)) q c))
+      | no ne ↦ S .most j (omega arith) b
+    ];
+  }
+
+  pub spans-more : (low high low′ high′ : ℕ) → low′ ≤ low → low′ ≤ ones (at rows u) → high ≤ high′ → ones (at rows u) ≤ high′ → high′ < 65 → Spans rows t low high → Spans rows u low′ high′
+  spans-more low high low′ high′ a b c d top S = record {
+    top = top;
+    least = λ j l m clear. elim (ℕ-discrete j u) [
+      | yes q ↦ subst (λ (x : ℕ). low′ ≤ ones (at rows x)) (sym q) b
+      | no ne ↦ let h = S .least j (omega arith) m clear in omega (arith, h)
+    ];
+    most = λ j l m clear. elim (ℕ-discrete j u) [
+      | yes q ↦ subst (λ (x : ℕ). ones (at rows x) ≤ high′) (sym q) d
+      | no ne ↦ let h = S .most j (omega arith) m clear in omega (arith, h)
+    ];
+  }
+
+  -- row u is clear
+  module _ (next head : List ℕ) (C : Chains rows next head t) (h : u < length rows) (clear : Clear rows (at rows u)) (few : ones (at rows u) < 65) where
+    abbrev n : ℕ
+    n = ones (at rows u)
+
+    abbrev next′ : List ℕ
+    next′ = set next u (at head (ones (at rows u)))
+
+    abbrev head′ : List ℕ
+    head′ = set head (ones (at rows u)) u
+
+    link-here : FirstFrom rows n (u + 1) (at next′ u)
+    link-here = subst (FirstFrom rows n (u + 1)) (sym (at-same next u (at head n) (omega (arith, C .long)))) (subst (λ (k : ℕ). FirstFrom rows n k (at head n)) e (C .heads n few))
+
+    head-here : FirstFrom rows n u (at head′ n)
+    head-here = subst (FirstFrom rows n u) (sym (at-same head n u (omega (arith, C .wide)))) (record { from = omega arith; gap = λ j a b l. absurd (omega arith); hit = λ _. (clear, refl) })
+
+    pub chains-more : Chains rows next′ head′ u
+    chains-more = record {
+      long = omega (arith, C .long, length-set next u (at head n));
+      wide = length-set head n u ∙ C .wide;
+      heads = λ k l. elim (ℕ-discrete k n) [
+        | yes q ↦ subst (λ (x : ℕ). FirstFrom rows x u (at head′ x)) (sym q) head-here
+        | no ne ↦ subst (FirstFrom rows k u) (sym (at-other head n u k ne)) (first-down k (at head k) (λ c. ne (sym (c .1))) (C .heads k l))
+      ];
+      links = λ i a b c. elim (ℕ-discrete i u) [
+        | yes q ↦ subst (λ (x : ℕ). FirstFrom rows (ones (at rows x)) (x + 1) (at next′ x)) (sym q) link-here
+        | no ne ↦ subst (FirstFrom rows (ones (at rows i)) (i + 1)) (sym (at-other next u (at head n) i ne)) (C .links i (omega arith) b c)
+      ];
+    }
