@@ -1,9 +1,8 @@
 -- The kept positions follow from the rows alone: every d that bounds their values gives the same ones. Assumes nothing.
 use Prim.Native.Nat.{ℕ, zero, suc, _≤_, _<_}
-use mathlib.Core.Path.{_≡_, refl, sym, ap, ap₂, _∙_, subst}
-use mathlib.Core.Logic.{inl, inr}
+use mathlib.Core.Path.{_≡_, refl, ap, ap₂, _∙_}
 use mathlib.Core.Bool.{Bool, true, cond}
-use mathlib.Core.List.{List, [], _∷_}
+use mathlib.Core.List.{List}
 use native.Mathlib.Decide.{decLt}
 use native.Mathlib.Omega.{arith}
 use lib.Dec.{ltb}
@@ -13,7 +12,7 @@ use Rattle.sets.proofs.Bools.{not-both}
 use Rattle.sets.proofs.Values.{has-empty}
 use Rattle.sets.proofs.ValuesBelow.{within-has}
 use Rattle.theory.specs.Family.{Rows}
-use Rattle.theory.specs.Pairings.{size, rank, at, In, Pairing}
+use Rattle.theory.specs.Pairings.{rank, at, Pairing}
 use Rattle.theory.specs.Kept.{pick, firsts, try, tries, marks, positions, kept}
 use Rattle.theory.proofs.Places.{past}
 use Rattle.theory.proofs.Enumerations.{rank-bound, rank-met}

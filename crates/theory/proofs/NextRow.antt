@@ -1,7 +1,7 @@
 -- What a largest pairing of the rows kept so far says of the next row. A row raises the rank by at most one: so a larger pairing of the kept rows and it is a largest one,
 -- and the row is kept; where the pairing at hand is still a largest one with it, the row is not. Assumes nothing.
 use Prim.Native.Nat.{ℕ, zero, suc, _+_, _≤_, _<_}
-use mathlib.Core.Path.{_≡_, sym, ap, _∙_}
+use mathlib.Core.Path.{_≡_, refl, sym, ap, _∙_}
 use mathlib.Core.Logic.{inl, inr}
 use mathlib.Core.Bool.{Bool, true, false, cond}
 use mathlib.Core.List.{List}
@@ -84,6 +84,10 @@ module _ (d : ℕ) (view : List ℕ) where
     where
       same : set ms i true ≡ ms
       same = ap (set ms i) (sym t) ∙ set-getD ms i false
+
+  pub tries-none : (i : ℕ) (ms : List Bool) → ms ≡ tries d view zero i ms
+  unfolding tries
+  tries-none i ms = refl
 
   -- one row more is tried at the end
   pub tries-next : (n i : ℕ) (ms : List Bool) → tries d view (suc n) i ms ≡ try d view (tries d view n i ms) (i + n)

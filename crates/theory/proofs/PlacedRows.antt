@@ -1,20 +1,19 @@
 -- Pairings of the rows at listed positions of a view, as a program keeps them: their largest size, and what the next row does to it. Assumes nothing.
 use Prim.Native.Nat.{ℕ, zero, suc, _+_, _≤_, _<_}
 use mathlib.Core.Path.{_≡_, refl, sym, ap, _∙_, subst}
-use mathlib.Core.Logic.{_≢_, _⊎_, inl, inr}
+use mathlib.Core.Logic.{inl, inr}
 use mathlib.Core.Bool.{Bool, true, false, cond}
-use mathlib.Core.List.{List, [], _∷_, _++_, map, List·Memᴰ, List·Memᴰ·head, List·Memᴰ·tail, List·Memᴰ·not-nil, List·Memᴰ·cases-cons, List·Memᴰ·append-cases, List·Memᴰ·eq-of-singleton, Memᴰ·append-left, Memᴰ·append-right}
+use mathlib.Core.List.{List, [], _∷_, _++_, map, List·Memᴰ, List·Memᴰ·head, List·Memᴰ·tail, List·Memᴰ·not-nil, List·Memᴰ·append-cases, List·Memᴰ·eq-of-singleton, Memᴰ·append-left, Memᴰ·append-right}
 use native.Mathlib.Nat.{not-suc-le-zero, le-of-suc-le-suc, suc-ne-zero}
 use native.Mathlib.Decide.{decLt}
 use native.Mathlib.Omega.{arith}
-use lib.Dec.{ltb}
 use lib.ListN.{length, set, length-set, length-map, length-append, replicate, length-replicate, List·getD-eq-default}
 use borrow.Author.Tests.{lt-ltb, le-ltb}
 use Rattle.sets.proofs.Bools.{not-both}
-use Rattle.theory.specs.Pairings.{size, rank, at, In, Seated, Pairing, Largest}
+use Rattle.theory.specs.Pairings.{size, rank, at, In, Seated, Pairing}
 use Rattle.theory.specs.Kept.{marked, pick, try, rowsAt}
 use Rattle.theory.specs.Search.{mask, Different, Stands}
-use Rattle.theory.proofs.Places.{mate?, not-mate, at-less, mem-place, stored, at-same, at-other, size-more}
+use Rattle.theory.proofs.Places.{mate?, not-mate, at-less, mem-place, stored, size-more}
 use Rattle.theory.proofs.PairingSteps.{pairing-put, pairing-tail, pairing-head}
 use Rattle.theory.proofs.Sizes.{size-by-values}
 use Rattle.theory.proofs.Enumerations.{OfRank, rank-bound, rank-met}

@@ -1,0 +1,91 @@
+-- Where the steps start: no row has a seat and all values below d are free. Assumes nothing.
+use Prim.Native.Nat.{ℕ, zero, suc, _-_, _^_}
+use mathlib.Core.Path.{_≡_, refl, sym, ap, _∙_}
+use mathlib.Core.Bool.{Bool}
+use mathlib.Core.List.{List, [], _∷_, List·Memᴰ·not-nil}
+use native.Mathlib.Nat.{suc-ne-zero}
+use native.Mathlib.Decide.{decLt}
+use native.Mathlib.Omega.{arith}
+use lib.Bits.{bitOr}
+use lib.ListN.{length, replicate, length-replicate}
+use Rattle.sets.specs.Sets.{has, within}
+use Rattle.sets.proofs.Bools.{not-both}
+use Rattle.sets.proofs.Values.{has-empty}
+use Rattle.sets.proofs.ValuesBelow.{all-has, has-all, within-has, within-some}
+use Rattle.theory.specs.Family.{Rows}
+use Rattle.theory.specs.Pairings.{size, rank, at}
+use Rattle.theory.specs.Kept.{pick}
+use Rattle.theory.proofs.Places.{past, mem-place}
+use Rattle.theory.proofs.PairingSteps.{pairing-nil}
+use Rattle.theory.proofs.Sizes.{size-by-rows}
+use Rattle.theory.proofs.Enumerations.{rank-met}
+use Rattle.pairing.specs.declared.seats.Seats.{Seats}
+use Rattle.pairing.specs.Seats.{Below, Bench}
+use Rattle.minimal.specs.Marking.{NoneEmpty}
+use Rattle.distinct.specs.Steps.{InColumn, before, Pairs}
+use Rattle.distinct.proofs.MarksBefore.{length-before}
+
+at-zeros : (n i : ℕ) → at (replicate n zero) i ≡ zero
+at-zeros zero i = refl
+at-zeros (suc n) zero = refl
+at-zeros (suc n) (suc i) = at-zeros n i
+
+pick-none : (ms : List Bool) (rows : List ℕ) → pick (before zero ms) rows ≡ []
+unfolding before pick
+pick-none [] rows = refl
+pick-none (m ∷ ms) [] = refl
+pick-none (m ∷ ms) (r ∷ rows) = pick-none ms rows
+
+module _ (d : ℕ) (view : List ℕ) (C : InColumn d view) where
+  pub column-rows : Rows d view
+  column-rows r m = let k = mem-place view r m in ap (within d) (k .2) ∙ C .rows-within (k .0) (k .1)
+
+  pub none-empty : NoneEmpty view
+  none-empty i h z = let t = within-some d (at view i) (C .rows-within i h) in not-both (t .1) (ap (λ (r : ℕ). has r (t .0)) z ∙ has-empty (t .0))
+
+  below : (i : ℕ) → Below d (at view i)
+  below i v t = elim (decLt i (length view)) [
+    | yes h ↦ within-has d (at view i) v (C .rows-within i h) t
+    | no n ↦ absurd (not-both t (ap (λ (r : ℕ). has r v) (past view i (omega arith)) ∙ has-empty v))
+  ]
+
+  -- the seats before any row is asked
+  abbrev start : Seats
+  start = record { d = d; used = zero; entered = zero; free = 2 ^ d - 1; dead = zero; heavy = zero }
+
+  bench : (columns : List ℕ) → length columns ≡ 64 → ((v : ℕ) → at columns v ≡ zero) → Bench start [] columns []
+  bench columns wide none = record {
+    used = refl;
+    column = C .column;
+    pairing = pairing-nil 64;
+    full = size-nil;
+    small = λ i v t. absurd (not-both t (has-empty v));
+    new = λ v t. (has-all d v t, λ s. suc-ne-zero v (sym (s .1)));
+    free = λ v h s. all-has d v h;
+    shut = λ u t. absurd (not-both t (has-empty u));
+    index = record {
+      wide = wide;
+      complete = λ i v t. absurd (not-both t (has-empty v));
+      inside = λ i v t. absurd (not-both t (ap (λ (x : ℕ). has (bitOr x zero) i) (none v) ∙ has-empty i));
+    };
+  }
+    where
+      size-nil : size [] ≡ zero
+      size-nil = omega (arith, size-by-rows [])
+
+  pub pairs-start : (ms : List Bool) → length ms ≡ length view → Pairs view (before zero ms) start (replicate 64 zero) (replicate 64 zero) (replicate 64 zero)
+  pairs-start ms long = record {
+    sits = record {
+      rows-wide = length-replicate 64 zero;
+      mates-wide = length-replicate 64 zero;
+      few = omega arith;
+      bench = bench (replicate 64 zero) (length-replicate 64 zero) (at-zeros 64);
+    };
+    places = [];
+    stands = record { fits = length-before zero ms ∙ long; apart = tt; marked-all = λ i m. absurd (List·Memᴰ·not-nil m); ranks = ap (rank 64) (pick-none ms view) ∙ none };
+    listed = refl;
+    small = below;
+  }
+    where
+      none : rank 64 [] ≡ zero
+      none = let h = rank-met 64 [] in omega (arith, h .2, size-by-rows (h .0), h .1 .fits)

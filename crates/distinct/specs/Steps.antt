@@ -1,0 +1,31 @@
+-- What the contracts of the two steps speak of.
+use Prim.Native.Nat.{ℕ, zero, suc, _≤_, _<_}
+use mathlib.Core.Path.{_≡_}
+use mathlib.Core.Bool.{Bool, true, false}
+use mathlib.Core.List.{List, [], _∷_}
+use lib.ListN.{length, take}
+use Rattle.sets.specs.Sets.{within}
+use Rattle.theory.specs.Kept.{rowsAt}
+use Rattle.theory.specs.Pairings.{at}
+use Rattle.theory.specs.Search.{Stands}
+use Rattle.pairing.specs.declared.seats.Seats.{Seats}
+use Rattle.pairing.specs.Seats.{Below, Sitting}
+
+-- the rows are those of a column with d values
+pub record InColumn (d : ℕ) (rows : List ℕ) : Type 0 where
+  pub column : d ≤ 64
+  pub rows-within : (i : ℕ) → i < length rows → within d (at rows i) ≡ true
+
+-- the marks before place n, and none from there on
+unfoldable pub before : ℕ → List Bool → List Bool
+before n [] = []
+before zero (m ∷ ms) = false ∷ before zero ms
+before (suc n) (m ∷ ms) = m ∷ before n ms
+
+-- the rows on the seats are marked rows of the view, as many as the rank of the marked rows
+pub record Pairs (view : List ℕ) (ms : List Bool) (s : Seats) (rows columns mates : List ℕ) : Type 0 where
+  pub sits : Sitting s rows columns mates
+  pub places : List ℕ
+  pub stands : Stands 64 view ms places
+  pub listed : take (s .used) rows ≡ rowsAt view places
+  pub small : (i : ℕ) → Below (s .d) (at view i)

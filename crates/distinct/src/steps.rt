@@ -1,0 +1,80 @@
+// The two steps of DISTINCT, on marks: keep[i] says whether row i is kept.
+ghost use mathlib.Core.Path.{_≡_};
+ghost use Prim.Native.Nat.{_≤_};
+ghost use lib.ListN.{length};
+ghost use Rattle.theory.specs.Kept.{marks, tries};
+ghost use Rattle.minimal.specs.Marking.{NoMarks};
+ghost use Rattle.distinct.specs.Steps.{InColumn, before, Pairs};
+use pairing::seats::Seats;
+
+// The marked rows get seats, in view order: a largest pairing of them.
+fn pair_up(
+    view: &[u64],
+    keep: &[bool],
+    start: Seats,
+    rows: &mut [u64],
+    columns: &mut [u64],
+    mates: &mut [usize],
+) -> Seats
+    requires { ⌜ (length (now keep) ≡ length (now view)) × Pairs (now view) (before 0 (now keep)) start (now rows) (now columns) (now mates) ⌝ }
+    ensures { λ r. ⌜ Pairs (now (view .entry)) (now (keep .entry)) r (now (rows .exit)) (now (columns .exit)) (now (mates .exit)) ⌝ }
+{
+    let mut seats = start;
+    let mut next: usize = 0;
+    while next < view.len() {
+        let i = next;
+        next += 1;
+        if keep[i] {
+            seats = pairing::seats::seat(view[i], seats, rows, columns, mates);
+        }
+    }
+    seats
+}
+
+// The other rows are tried in view order: one is kept where it gets a seat.
+fn try_rest(
+    view: &[u64],
+    keep: &mut [bool],
+    start: Seats,
+    rows: &mut [u64],
+    columns: &mut [u64],
+    mates: &mut [usize],
+)
+    requires { ⌜ Pairs (now view) (now keep) start (now rows) (now columns) (now mates) ⌝ }
+    ensures { λ _. ⌜ now (keep .exit) ≡ tries 64 (now (view .entry)) (length (now (view .entry))) 0 (now (keep .entry)) ⌝ }
+{
+    let mut seats = start;
+    let mut next: usize = 0;
+    while next < view.len() {
+        let i = next;
+        next += 1;
+        if !keep[i] {
+            let used = seats.used;
+            seats = pairing::seats::seat(view[i], seats, rows, columns, mates);
+            if used < seats.used {
+                keep[i] = true;
+            }
+        }
+    }
+}
+
+// The rows that DISTINCT keeps are marked.
+pub fn settle(d: usize, view: &[u64], keep: &mut [bool])
+    requires { ⌜ (length (now view) ≤ 320) × (length (now keep) ≡ length (now view)) × NoMarks (now keep) × InColumn d (now view) ⌝ }
+    ensures { λ _. ⌜ now (keep .exit) ≡ marks d (now (view .entry)) ⌝ }
+{
+    minimal::mark_minimal(view, keep);
+    let mut rows = [0u64; 64];
+    let mut columns = [0u64; 64];
+    let mut mates = [0usize; 64];
+    let start = Seats {
+        d,
+        used: 0,
+        entered: 0,
+        free: sets::all(d),
+        dead: 0,
+        heavy: 0,
+    };
+    let seats = pair_up(view, keep, start, &mut rows, &mut columns, &mut mates);
+    try_rest(view, keep, seats, &mut rows, &mut columns, &mut mates);
+}

@@ -1,0 +1,36 @@
+-- `foliokettle_distinct` meets its contract. Assumes nothing.
+use mathlib.Core.Path.{sym, ap, _∙_}
+use borrow.Author.Needs.{needs}
+use Rattle.host.specs.Numbers.{keptNumber}
+use Rattle.host.proofs.foliokettle_distinct.Statement.{statement}
+use Rattle.host.proofs.foliokettle_distinct.Tie as tie
+
+ask-requires : tie.Need-ask-requires
+ask-requires c κs = search needs
+
+enum-known-answer : tie.Need-enum-known-answer
+enum-known-answer c = search needs
+
+enum-told : tie.Need-enum-told
+enum-told c = search needs
+
+same-length : tie.Need-same-length
+same-length c = search needs
+
+returns : tie.Need-returns
+returns c =
+    let o = c .before .before .before .before .before .ask in
+    (ap keptNumber (sym (c .before .answer .given .1) ∙ o .ensures .0), o .ensures .1)
+
+same-length-2 : tie.Need-same-length-2
+same-length-2 c = search needs
+
+returns-2 : tie.Need-returns-2
+returns-2 c =
+    let o = c .before .before .before .before .ask in
+    (ap keptNumber (sym (c .enum-told .given .1) ∙ o .ensures .0), o .ensures .1)
+
+pub foliokettle-distinct-spec : {M : Type 1} → statement M
+foliokettle-distinct-spec =
+    tie.close
+    (tie.spec ask-requires enum-known-answer enum-told same-length returns same-length-2 returns-2)

@@ -1,0 +1,2 @@
+-- `Numbers`: the numbers by which hosts in other languages are answered.
+pub mod Numbers
