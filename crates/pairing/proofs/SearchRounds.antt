@@ -31,7 +31,7 @@ round-start free rows p asked word none = record {
   done = λ v t. inl t;
 }
 
-module _ (free : ℕ) (rows p p′ : List ℕ) (asked′ left : ℕ) (R : Round free rows p p′ asked′ left) where
+module _ {free : ℕ} {rows p p′ : List ℕ} {asked′ left : ℕ} (R : Round free rows p p′ asked′ left) where
   -- no value is left to ask
   pub round-end : left ≡ zero → OfSearch 64 free rows p p′ asked′
   round-end z = record {
@@ -42,7 +42,7 @@ module _ (free : ℕ) (rows p p′ : List ℕ) (asked′ left : ℕ) (R : Round 
   }
 
   -- v is next
-  module _ (v : ℕ) (is : v ≡ trailingZeros 64 left) (ne : left ≢ zero) where
+  module _ {v : ℕ} (is : v ≡ trailingZeros 64 left) (ne : left ≢ zero) where
     lowest : (trailingZeros 64 left < 64) × (has left (trailingZeros 64 left) ≡ true)
     lowest = lowest-has 64 left (R .word) ne
 
@@ -52,15 +52,19 @@ module _ (free : ℕ) (rows p p′ : List ℕ) (asked′ left : ℕ) (R : Round 
     here : has left v ≡ true
     here = ap (has left) is ∙ lowest .1
 
-    pub round-less : minus left (single v) < left
-    round-less = without-less left v here
+    -- what is left when v has been taken out
+    pub round-left : (rest : ℕ) → rest ≡ minus left (single (trailingZeros 64 left)) → rest ≡ minus left (single v)
+    round-left rest e = e ∙ ap (λ (x : ℕ). minus left (single x)) (sym is)
 
-    pub round-asks : (columns : List ℕ) (heavy : ℕ) → Searches free rows columns heavy p → Asks v rows columns heavy p′
-    round-asks columns heavy S =
+    pub round-less : (rest : ℕ) → rest ≡ minus left (single (trailingZeros 64 left)) → rest < left
+    round-less rest e = omega (arith, round-left rest e, without-less left v here)
+
+    pub round-asks : {columns : List ℕ} {heavy : ℕ} → Searches free rows columns heavy p → Asks v rows columns heavy p′
+    round-asks {columns} {heavy} S =
         subst (Asks v rows columns heavy) (sym (R .stuck .still))
         (record { small = round-small; few = S .few; index = S .index; pairing = S .pairing; new = S .new v (R .some v here) })
 
-    module _ (r : Bool) (p″ : List ℕ) (asked″ : ℕ) (O : OfValue r v rows p′ asked′ p″ asked″) where
+    module _ {r : Bool} {p″ : List ℕ} {asked″ : ℕ} (O : OfValue r v rows p′ asked′ p″ asked″) where
       -- v has got a row
       pub round-found : r ≡ true → OfSearch v free rows p p″ asked″
       round-found t = record {
@@ -71,8 +75,8 @@ module _ (free : ℕ) (rows p p′ : List ℕ) (asked′ left : ℕ) (R : Round 
       }
 
       -- v has not
-      pub round-again : r ≡ false → Round free rows p p″ asked″ (minus left (single v))
-      round-again f = record {
+      again : r ≡ false → Round free rows p p″ asked″ (minus left (single v))
+      again f = record {
         word = minus-word 64 left (single v) (R .word);
         some = λ u t. R .some u (minus-out left (single v) u t .0);
         stuck = record { still = O .stuck f .still ∙ R .stuck .still; closed = closed };
@@ -90,3 +94,6 @@ module _ (free : ℕ) (rows p p′ : List ℕ) (asked′ left : ℕ) (R : Round 
             | inl a ↦ let k = R .stuck .closed i a n in (k .0, k .1, λ j inn. O .more j (k .2 j inn))
             | inr a ↦ let k = O .stuck f .closed i t a in (k .0, ap (λ (l : List ℕ). at l i) (sym (R .stuck .still)) ∙ k .1, k .2)
           ]
+
+      pub round-again : (rest : ℕ) → rest ≡ minus left (single (trailingZeros 64 left)) → r ≡ false → Round free rows p p″ asked″ rest
+      round-again rest e f = subst (Round free rows p p″ asked″) (sym (round-left rest e)) (again f)

@@ -37,11 +37,11 @@ pub record Entering (row i : ℕ) (columns columns′ : List ℕ) (left : ℕ) :
   pub old : (j v : ℕ) → has (at columns v) j ≡ true → has (at columns′ v) j ≡ true
   pub from : (j v : ℕ) → has (at columns′ v) j ≡ true → (j ≡ i) ⊎ (has (at columns v) j ≡ true)
 
-module _ (row i : ℕ) (columns : List ℕ) where
+module _ {row i : ℕ} {columns : List ℕ} where
   pub enter-start : row < 2 ^ 64 → Entering row i columns columns row
   enter-start word = record { word = word; wide = refl; new = λ v t. inl t; old = λ j v t. t; from = λ j v t. inr t }
 
-  module _ (columns′ : List ℕ) (left : ℕ) (E : Entering row i columns columns′ left) where
+  module _ {columns′ : List ℕ} {left : ℕ} (E : Entering row i columns columns′ left) where
     pub enter-end : left ≡ zero → Entered row i columns columns′
     enter-end z = record {
       wide = E .wide;
@@ -51,18 +51,21 @@ module _ (row i : ℕ) (columns : List ℕ) where
     }
 
     -- v is the next value
-    module _ (v : ℕ) (is : v ≡ trailingZeros 64 left) (ne : left ≢ zero) where
+    module _ {v : ℕ} (is : v ≡ trailingZeros 64 left) (ne : left ≢ zero) where
       lowest : (v < 64) × (has left v ≡ true)
       lowest = subst (λ (x : ℕ). (x < 64) × (has left x ≡ true)) (sym is) (lowest-has 64 left (E .word) ne)
 
       pub enter-small : v < 64
       enter-small = lowest .0
 
-      pub enter-less : minus left (single v) < left
-      enter-less = without-less left v (lowest .1)
+      left-now : (rest : ℕ) → rest ≡ minus left (single (trailingZeros 64 left)) → rest ≡ minus left (single v)
+      left-now rest e = e ∙ ap (λ (x : ℕ). minus left (single x)) (sym is)
 
-      pub enter-next : length columns ≡ 64 → Entering row i columns (set columns′ v (bitOr (at columns′ v) (single i))) (minus left (single v))
-      enter-next wide = record {
+      pub enter-less : (rest : ℕ) → rest ≡ minus left (single (trailingZeros 64 left)) → rest < left
+      enter-less rest e = omega (arith, left-now rest e, without-less left v (lowest .1))
+
+      next : length columns ≡ 64 → Entering row i columns (set columns′ v (bitOr (at columns′ v) (single i))) (minus left (single v))
+      next wide = record {
         word = minus-word 64 left (single v) (E .word);
         wide = length-set columns′ v (bitOr (at columns′ v) (single i)) ∙ E .wide;
         new = λ u t. elim (E .new u t) [
@@ -93,6 +96,11 @@ module _ (row i : ℕ) (columns : List ℕ) where
             | inl s ↦ ap (λ (x : ℕ). has x j) (s .1) ∙ with-old (at columns′ v) i j (ap (λ (x : ℕ). has (at columns′ x) j) (sym (s .0)) ∙ t)
             | inr s ↦ ap (λ (x : ℕ). has x j) (s .1) ∙ t
           ]
+
+      pub enter-next : length columns ≡ 64 → (rest put : ℕ) → rest ≡ minus left (single (trailingZeros 64 left)) → put ≡ bitOr (at columns′ v) (single i) → Entering row i columns (set columns′ v put) rest
+      enter-next wide rest put e f =
+          subst (Entering row i columns (set columns′ v put)) (sym (left-now rest e))
+          (subst (λ (x : ℕ). Entering row i columns (set columns′ v x) (minus left (single v))) (sym f) (next wide))
 
 -- ---- the index
 

@@ -81,7 +81,7 @@ pub fn search(
             return 64;
         }
         let v = sets::lowest(left);
-        left = sets::without(left, v);
+        left = sets::rest(left);
         if ask_value(v, rows, columns, heavy, mates, asked) {
             return v;
         }

@@ -27,7 +27,7 @@ fn enter(row: u64, i: usize, columns: &mut [u64])
     let mut left = row;
     while left != 0 {
         let v = sets::lowest(left);
-        left = sets::without(left, v);
+        left = sets::rest(left);
         columns[v] = sets::with(columns[v], i);
     }
 }

@@ -1,17 +1,18 @@
 -- The lowest and the highest value of a set, as the counts of its zeros give them. Assumes nothing.
-use Prim.Native.Nat.{ℕ, zero, suc, _+_, _-_, _/_, _%_, _^_, _≤_, _<_}
-use mathlib.Core.Path.{_≡_, sym, ap, _∙_, subst}
+use Prim.Native.Nat.{ℕ, zero, suc, _+_, _-_, _*_, _/_, _%_, _^_, _≤_, _<_, min}
+use mathlib.Core.Path.{_≡_, sym, ap, ap₂, _∙_, subst}
 use mathlib.Core.Logic.{_≢_, _⊎_, inl, inr}
-use mathlib.Core.Bool.{true}
-use native.Mathlib.Nat.{mod-lt, zero-lt-suc, div-lt-iff-lt-mul, le-div-iff-mul-le, pow-suc, mul-comm, one-mul, eq-zero-or-pos}
+use mathlib.Core.Bool.{Bool, true, false, not, _&&_, and-true, and-false}
+use native.Mathlib.Nat.{add-zero, mod-lt, zero-lt-suc, div-lt-iff-lt-mul, le-div-iff-mul-le, pow-suc, mul-comm, one-mul, eq-zero-or-pos}
 use native.Mathlib.Omega.{arith}
 use lib.Count.{trailingZeros, leadingZeros, under, leading-of-zero, leading-top}
-use lib.Dec.{eqb}
+use lib.Bits.{bitAnd, and-step, and-self}
+use lib.Dec.{eqb, eqb·zero-suc, eqb·suc-suc}
 use lib.Pow.{pow-pos}
 use borrow.Author.Tests.{eqb-true, eqb-false}
-use Rattle.sets.specs.Sets.{has}
+use Rattle.sets.specs.Sets.{has, single, minus}
 use Rattle.sets.proofs.Bools.{true-or-false}
-use Rattle.sets.proofs.Values.{has-zero, has-suc}
+use Rattle.sets.proofs.Values.{has-zero, has-suc, has-single, has-minus, set-ext}
 
 -- ---- the lowest
 
@@ -36,6 +37,55 @@ lowest-has (suc k) n h ne = elim (low-digit n) [
       let is : under (n % 2) (trailingZeros k (n / 2)) ≡ suc (trailingZeros k (n / 2)) = ap (λ (x : ℕ). under x (trailingZeros k (n / 2))) e in
       (omega (arith, is, ih .0), ap (has n) is ∙ has-suc n (trailingZeros k (n / 2)) ∙ ih .1)
 ]
+
+-- ---- a set without its lowest value
+
+-- one less has the lowest value no more, and the higher ones as before
+rest-even : (n : ℕ) → n % 2 ≡ 0 → n ≢ zero → bitAnd n (n - 1) ≡ bitAnd (n / 2) (n / 2 - 1) * 2
+rest-even n e ne =
+    and-step n (n - 1)
+    ∙ ap₂ (λ (x y : ℕ). bitAnd (n / 2) x * 2 + y) (let half : (n - 1) / 2 ≡ n / 2 - 1 = omega (arith, e, ne) in half) (let low : min (n % 2) ((n - 1) % 2) ≡ zero = omega (arith, e) in low)
+    ∙ add-zero (bitAnd (n / 2) (n / 2 - 1) * 2)
+
+rest-odd : (n : ℕ) → n % 2 ≡ 1 → bitAnd n (n - 1) ≡ n / 2 * 2
+rest-odd n e =
+    and-step n (n - 1)
+    ∙ ap₂ (λ (x y : ℕ). bitAnd (n / 2) x * 2 + y) (let half : (n - 1) / 2 ≡ n / 2 = omega (arith, e) in half) (let low : min (n % 2) ((n - 1) % 2) ≡ zero = omega (arith, e) in low)
+    ∙ add-zero (bitAnd (n / 2) (n / 2) * 2)
+    ∙ ap (λ (x : ℕ). x * 2) (and-self (n / 2))
+
+has-double : (n v : ℕ) → has (n * 2) (suc v) ≡ has n v
+has-double n v = has-suc (n * 2) v ∙ ap (λ (x : ℕ). has x v) (let half : n * 2 / 2 ≡ n = omega arith in half)
+
+has-double-low : (n : ℕ) → has (n * 2) zero ≡ false
+has-double-low n = has-zero (n * 2) ∙ ap (λ (x : ℕ). eqb x 1) (let low : n * 2 % 2 ≡ 0 = omega arith in low)
+
+rest-has : (k n : ℕ) → n < 2 ^ k → n ≢ zero → (v : ℕ) → has (bitAnd n (n - 1)) v ≡ (has n v && not (eqb (trailingZeros k n) v))
+unfolding trailingZeros
+rest-has zero n h ne v = absurd (ne (omega arith))
+rest-has (suc k) n h ne v = elim (low-digit n) [
+  | inr e ↦ ap (λ (x : ℕ). has x v) (rest-odd n (e .0)) ∙ odd v (e .1) ∙ ap (λ (x : ℕ). has n v && not (eqb (under x (trailingZeros k (n / 2))) v)) (sym (e .0))
+  | inl e ↦
+      ap (λ (x : ℕ). has x v) (rest-even n e ne)
+      ∙ even v e (rest-has k (n / 2) (div-lt-iff-lt-mul (zero-lt-suc 1) .1 (rw pow-suc at h)) (λ z. ne (omega (arith, z, e))))
+      ∙ ap (λ (x : ℕ). has n v && not (eqb (under x (trailingZeros k (n / 2))) v)) (sym e)
+]
+  where
+    odd : (v : ℕ) → has n zero ≡ true → has (n / 2 * 2) v ≡ (has n v && not (eqb zero v))
+    odd zero t = has-double-low (n / 2) ∙ sym (and-false (has n zero))
+    odd (suc v) t = has-double (n / 2) v ∙ sym (has-suc n v) ∙ sym (ap (λ (b : Bool). has n (suc v) && not b) (eqb·zero-suc v) ∙ and-true (has n (suc v)))
+
+    even : (v : ℕ) → n % 2 ≡ 0 → ((u : ℕ) → has (bitAnd (n / 2) (n / 2 - 1)) u ≡ (has (n / 2) u && not (eqb (trailingZeros k (n / 2)) u)))
+        → has (bitAnd (n / 2) (n / 2 - 1) * 2) v ≡ (has n v && not (eqb (suc (trailingZeros k (n / 2))) v))
+    even zero e ih = has-double-low (bitAnd (n / 2) (n / 2 - 1)) ∙ sym (ap (λ (b : Bool). b && not (eqb (suc (trailingZeros k (n / 2))) zero)) (has-zero n ∙ ap (λ (x : ℕ). eqb x 1) e))
+    even (suc v) e ih =
+        has-double (bitAnd (n / 2) (n / 2 - 1)) v ∙ ih v
+        ∙ ap₂ (λ (a b : Bool). a && not b) (sym (has-suc n v)) (sym (eqb·suc-suc (trailingZeros k (n / 2)) v))
+
+pub rest-is : (k n : ℕ) → n < 2 ^ k → n ≢ zero → bitAnd n (n - 1) ≡ minus n (single (trailingZeros k n))
+rest-is k n h ne =
+    set-ext (bitAnd n (n - 1)) (minus n (single (trailingZeros k n)))
+    (λ v. rest-has k n h ne v ∙ ap (λ (b : Bool). has n v && not b) (sym (has-single (trailingZeros k n) v)) ∙ sym (has-minus n (single (trailingZeros k n)) v))
 
 -- ---- the highest
 

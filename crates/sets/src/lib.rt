@@ -69,6 +69,16 @@ pub fn lowest(set: u64) -> usize
     u64::trailing_zeros(set) as usize
 }
 
+// The set without its lowest value.
+pub fn rest(set: u64) -> u64
+    ensures { λ r. ⌜ r ≡ minus set (single (trailingZeros 64 set)) ⌝ }
+{
+    if set == 0 {
+        return 0;
+    }
+    set & (set - 1)
+}
+
 // One more than the highest value of the set, and 0 where it has none.
 pub fn top(set: u64) -> usize
     ensures { λ r. ⌜ r ≡ 64 - leadingZeros 64 set ⌝ }

@@ -3,7 +3,7 @@ use borrow.Author.Needs.{needs}
 use mathlib.Core.Path.{sym, ap, subst, _∙_}
 use native.Mathlib.Omega.{arith}
 use lib.ListN.{length}
-use Rattle.pairing.proofs.SearchRounds.{Round, round-start, round-end, round-small, round-less, round-asks, round-found, round-again}
+use Rattle.pairing.proofs.SearchRounds.{Round, round-start, round-end, round-less, round-asks, round-found, round-again}
 use Rattle.pairing.proofs.search.search.Statement.{statement}
 use Rattle.pairing.proofs.search.search.Tie as tie
 
@@ -25,24 +25,20 @@ returns : tie.Need-returns Inv-loop μ-loop
 returns c =
     let e = c .before .before .before .before .before in
     let l = c .before .loop in
-    round-end (e .args .free) (e .args .rows .now) (e .args .mates .now) (l .mates) (l .asked) (l .left) (l .inv) (c .if1 .taken)
+    round-end (l .inv) (c .if1 .taken)
 
 lowest-requires : tie.Need-lowest-requires Inv-loop μ-loop
 lowest-requires c κs = search needs
 
-without-requires : tie.Need-without-requires Inv-loop μ-loop
-without-requires c κs =
-    let e = c .before .before .before .before .before .before in
-    let l = c .before .before .loop in
-    let v = c in
-    round-small (e .args .free) (e .args .rows .now) (e .args .mates .now) (l .mates) (l .asked) (l .left) (l .inv) (v .lowest .result) (v .lowest .ensures) (v .before .if1 .left)
+rest-requires : tie.Need-rest-requires Inv-loop μ-loop
+rest-requires c κs = search needs
 
 ask-value-requires : tie.Need-ask-value-requires Inv-loop μ-loop
 ask-value-requires c κs =
     let e = c .before .before .before .before .before .before .before .before .before in
     let l = c .before .before .before .before .before .loop in
     let v = c .before .before .before in
-    round-asks (e .args .free) (e .args .rows .now) (e .args .mates .now) (l .mates) (l .asked) (l .left) (l .inv) (v .lowest .result) (v .lowest .ensures) (v .before .if1 .left) (e .args .columns .now) (e .args .heavy) (e .pre .0)
+    round-asks (l .inv) (v .lowest .ensures) (v .before .if1 .left) (e .pre .0)
 
 same-length-2 : tie.Need-same-length-2 Inv-loop μ-loop
 same-length-2 c =
@@ -56,22 +52,20 @@ returns-2 c =
     let l = c .before .before .before .before .before .before .before .before .before .loop in
     let v = c .before .before .before .before .before .before .before in
     let o = c .before .before .before .ask-value in
-    round-found (e .args .free) (e .args .rows .now) (e .args .mates .now) (l .mates) (l .asked) (l .left) (l .inv) (v .lowest .result) (v .lowest .ensures) (v .before .if1 .left) (o .result) (o .last .1 .1 .1 .1 .0) (o .last .1 .1 .1 .1 .1 .0) (o .ensures) (c .if2 .taken)
+    round-found (l .inv) (v .lowest .ensures) (v .before .if1 .left) (o .ensures) (c .if2 .taken)
 
 loop-less : tie.Need-loop-less Inv-loop μ-loop
 loop-less c =
-    let e = c .before .before .before .before .before .before .before .before .before .before .before .before .before in
     let l = c .before .before .before .before .before .before .before .before .before .loop in
     let v = c .before .before .before .before .before .before .before in
-    omega (arith, c .before .before .before .before .before .before .without .ensures, round-less (e .args .free) (e .args .rows .now) (e .args .mates .now) (l .mates) (l .asked) (l .left) (l .inv) (v .lowest .result) (v .lowest .ensures) (v .before .if1 .left))
+    round-less (l .inv) (v .lowest .ensures) (v .before .if1 .left) _ (c .before .before .before .before .before .before .rest .ensures)
 
 loop-again : tie.Need-loop-again Inv-loop μ-loop
 loop-again c =
-    let e = c .before .before .before .before .before .before .before .before .before .before .before .before .before in
     let l = c .before .before .before .before .before .before .before .before .before .loop in
     let v = c .before .before .before .before .before .before .before in
     let o = c .before .before .before .ask-value in
-    subst (Round (e .args .free) (e .args .rows .now) (e .args .mates .now) (o .last .1 .1 .1 .1 .0) (o .last .1 .1 .1 .1 .1 .0)) (sym (c .before .before .before .before .before .before .without .ensures)) (round-again (e .args .free) (e .args .rows .now) (e .args .mates .now) (l .mates) (l .asked) (l .left) (l .inv) (v .lowest .result) (v .lowest .ensures) (v .before .if1 .left) (o .result) (o .last .1 .1 .1 .1 .0) (o .last .1 .1 .1 .1 .1 .0) (o .ensures) (c .if2 .left))
+    round-again (l .inv) (v .lowest .ensures) (v .before .if1 .left) (o .ensures) _ (c .before .before .before .before .before .before .rest .ensures) (c .if2 .left)
 
 pub search-spec : {M : Type 1} → statement M
 search-spec =
@@ -83,7 +77,7 @@ search-spec =
     same-length
     returns
     lowest-requires
-    without-requires
+    rest-requires
     ask-value-requires
     same-length-2
     returns-2
