@@ -37,25 +37,25 @@ fn mark_singles(rows: &[u64], keep: &mut [bool]) -> u64
     singles
 }
 
-// None of the first `found` rows of `mins` is a subset of x. Four rows are tested at a time, and the rest one by one.
+// None of the first `found` rows of `mins` is a subset of x: each has a value that x has not. Four rows are tested at a time, and the rest one by one.
 fn none_within(mins: &[u64], found: usize, x: u64) -> bool
     requires { ⌜ found ≤ length (now mins) ⌝ }
     ensures { λ r. ⌜ Scanned r (now (mins .entry)) found x ⌝ }
 {
+    let others = sets::minus(sets::all(64), x);
     let mut next: usize = 0;
     while 4 <= found - next {
-        let a = mins[next];
-        let b = mins[next + 1];
-        let c = mins[next + 2];
-        let d = mins[next + 3];
-        if (a & x == a) | (b & x == b) | (c & x == c) | (d & x == d) {
+        let a = mins[next] & others;
+        let b = mins[next + 1] & others;
+        let c = mins[next + 2] & others;
+        let d = mins[next + 3] & others;
+        if (a == 0) | (b == 0) | (c == 0) | (d == 0) {
             return false;
         }
         next += 4;
     }
     while next < found {
-        let m = mins[next];
-        if m & x == m {
+        if mins[next] & others == 0 {
             return false;
         }
         next += 1;

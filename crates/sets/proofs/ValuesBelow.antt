@@ -2,19 +2,20 @@
 use Prim.Native.Nat.{ℕ, zero, suc, _-_, _*_, _/_, _%_, _^_, _<_}
 use mathlib.Core.Path.{_≡_, refl, sym, ap, _∙_, subst}
 use mathlib.Core.Logic.{_≢_, _⊎_, inl, inr}
-use mathlib.Core.Bool.{true, false, not, false≢true}
+use mathlib.Core.Bool.{true, false, not, _&&_, false≢true}
 use mathlib.Core.List.{List, [], _∷_, List·Memᴰ, List·Memᴰ·head, List·Memᴰ·tail}
 use native.Mathlib.Nat.{not-suc-le-zero, le-of-suc-le-suc, div-eq-of-lt, lt-of-lt-of-le, div-lt-iff-lt-mul, pow-suc, zero-lt-suc}
 use native.Mathlib.Decide.{decLt}
 use native.Mathlib.Omega.{arith}
 use lib.Arith.{bin-ind}
-use lib.Bits.{or-lt}
+use lib.Bits.{bitAnd, or-lt}
 use lib.Dec.{eqb}
 use lib.Pow.{pow-mono, pow-pos, ones-lt}
-use borrow.Author.Tests.{lt-ltb, ltb-true, eqb-false, ne-eqb, not-true}
-use Rattle.sets.specs.Sets.{has, union, minus, below, within}
+use borrow.Author.Tests.{lt-ltb, ltb-true, eqb-false, eq-eqb, ne-eqb, not-true}
+use Rattle.sets.specs.Sets.{has, union, subset, minus, below, within}
 use Rattle.sets.proofs.Bools.{and-left, and-right, and-both, true-or-false, not-both}
-use Rattle.sets.proofs.Values.{has-empty, has-zero, has-suc, minus-out, set-ext}
+use Rattle.sets.proofs.Values.{has-and, has-empty, has-zero, has-suc, minus-in, minus-out, set-ext}
+use Rattle.sets.proofs.Subsets.{subset-has, has-subset}
 
 -- ---- by numbers
 
@@ -104,3 +105,26 @@ pub union-less : (d : ℕ) (rows : List ℕ) → ((r : ℕ) → List·Memᴰ r r
 unfolding union
 union-less d [] f = pow-pos d
 union-less d (r ∷ rows) f = or-lt d r (union rows) (f r (List·Memᴰ·head refl)) (union-less d rows (λ q m. f q (List·Memᴰ·tail m)))
+
+-- ---- a subset has nothing outside
+
+-- so that one test against the values that b has not answers for any a
+pub subset-outside : (k a b : ℕ) → a < 2 ^ k → eqb (bitAnd a (minus (2 ^ k - 1) b)) zero ≡ subset a b
+subset-outside k a b h = elim (true-or-false (subset a b)) [
+  | inl s ↦ eq-eqb (bitAnd a out) zero (set-ext (bitAnd a out) zero (λ v. nothing s v (true-or-false (has (bitAnd a out) v)))) ∙ sym s
+  | inr n ↦ ne-eqb (bitAnd a out) zero (λ z. not-both (has-subset a b (λ v t. in-b z v t (true-or-false (has b v)))) n) ∙ sym n
+]
+  where
+    out : ℕ
+    out = minus (2 ^ k - 1) b
+
+    nothing : subset a b ≡ true → (v : ℕ) → (has (bitAnd a out) v ≡ true) ⊎ (has (bitAnd a out) v ≡ false) → has (bitAnd a out) v ≡ has zero v
+    nothing s v (inr e) = e ∙ sym (has-empty v)
+    nothing s v (inl e) =
+        let both : (has a v && has out v) ≡ true = sym (has-and a out v) ∙ e in
+        absurd (not-both (subset-has a b s v (and-left (has a v) (has out v) both)) (minus-out (2 ^ k - 1) b v (and-right (has a v) (has out v) both) .1))
+
+    in-b : bitAnd a out ≡ zero → (v : ℕ) → has a v ≡ true → (has b v ≡ true) ⊎ (has b v ≡ false) → has b v ≡ true
+    in-b z v t (inl e) = e
+    in-b z v t (inr e) =
+        absurd (not-both (has-and a out v ∙ and-both (has a v) (has out v) t (minus-in (2 ^ k - 1) b v (all-has k v (has-less k a v h t)) e)) (ap (λ (x : ℕ). has x v) z ∙ has-empty v))

@@ -4,24 +4,36 @@ use native.Mathlib.Nat.{not-suc-le-zero}
 use native.Mathlib.Omega.{arith}
 use borrow.Author.Needs.{needs}
 use Rattle.minimal.specs.Marking.{NoneWithin}
-use Rattle.minimal.proofs.Scans.{scan-some, scan-more, scan-none, four-some, four-none}
+use Rattle.minimal.proofs.Scans.{Tells, tells, scan-some, scan-more, scan-none, four-some, four-none}
 use Rattle.minimal.proofs.none_within.Statement.{statement}
 use Rattle.minimal.proofs.none_within.Tie as tie
+use Rattle.minimal.proofs.none_within.Reads as reads
+use Rattle.minimal.proofs.none_within.Lts as lts
+use Rattle.sets.proofs.all.Reads as all-reads
+use Rattle.sets.proofs.minus.Reads as minus-reads
 
 abbrev Inv-loop : tie.InvT-loop
-Inv-loop mins found x next₀ next = (next ≤ found) × NoneWithin mins next x
+Inv-loop mins found x others next₀ next = (next ≤ found) × Tells mins others x × NoneWithin mins next x
 
 abbrev μ-loop : tie.MeasureT-loop
-μ-loop mins found x next₀ next = found - next
+μ-loop mins found x others next₀ next = found - next
 
 abbrev Inv-loop2 : tie.InvT-loop2
-Inv-loop2 mins found x next₀ next = (next ≤ found) × NoneWithin mins next x
+Inv-loop2 mins found x others next₀ next = (next ≤ found) × Tells mins others x × NoneWithin mins next x
 
 abbrev μ-loop2 : tie.MeasureT-loop2
-μ-loop2 mins found x next₀ next = found - next
+μ-loop2 mins found x others next₀ next = found - next
+
+all-requires : tie.Need-all-requires Inv-loop μ-loop Inv-loop2 μ-loop2
+all-requires c κs = omega arith
+
+minus-requires : tie.Need-minus-requires Inv-loop μ-loop Inv-loop2 μ-loop2
+minus-requires c κs = tt
 
 loop-holds : tie.Need-loop-holds Inv-loop μ-loop Inv-loop2 μ-loop2
-loop-holds c = (omega arith, λ m h. absurd (not-suc-le-zero h))
+loop-holds c =
+    let e = c .before .before .before in
+    (omega arith, tells 64 (e .args .mins .now) (c .before .all .result) (c .minus .result) (e .args .x) (λ m l. c .before .before .shared-slice-known .given m .fits) (c .before .all .ensures) (c .minus .ensures), λ m h. absurd (not-suc-le-zero h))
 
 sub-loop : tie.Need-sub-loop Inv-loop μ-loop Inv-loop2 μ-loop2
 sub-loop c = search needs
@@ -62,8 +74,8 @@ shared-slice-read-d c = search needs
 returns : tie.Need-returns Inv-loop μ-loop Inv-loop2 μ-loop2
 returns c =
     let l = c .before .before .before .before .before .before in
-    let e = l .before in
-    four-some (e .args .mins .now) (e .args .x) (e .args .found) (l .loop .next) (omega arith) (c .if1 .taken)
+    let e = l .before .before .before .before in
+    four-some (l .loop .inv .1) (e .args .found) (l .loop .next) (omega arith) (e .pre) (c .if1 .taken)
 
 add-next : tie.Need-add-next Inv-loop μ-loop Inv-loop2 μ-loop2
 add-next c = search needs
@@ -74,23 +86,23 @@ loop-less c = search needs
 loop-again : tie.Need-loop-again Inv-loop μ-loop Inv-loop2 μ-loop2
 loop-again c =
     let l = c .before .before .before .before .before .before in
-    let e = l .before in
-    (omega arith, four-none (e .args .mins .now) (e .args .x) (l .loop .next) (l .loop .inv .1) (c .if1 .left))
+    let e = l .before .before .before .before in
+    (omega arith, l .loop .inv .1, four-none (l .loop .inv .1) (l .loop .next) (omega (arith, e .pre)) (l .loop .inv .2) (c .if1 .left))
 
 loop2-holds : tie.Need-loop2-holds Inv-loop μ-loop Inv-loop2 μ-loop2
 loop2-holds c = c .before .loop .inv
 
-mul-m : tie.Need-mul-m Inv-loop μ-loop Inv-loop2 μ-loop2
-mul-m c = search needs
+mul-if2 : tie.Need-mul-if2 Inv-loop μ-loop Inv-loop2 μ-loop2
+mul-if2 c = search needs
 
-shared-slice-read-m : tie.Need-shared-slice-read-m Inv-loop μ-loop Inv-loop2 μ-loop2
-shared-slice-read-m c = search needs
+shared-slice-read-if2 : tie.Need-shared-slice-read-if2 Inv-loop μ-loop Inv-loop2 μ-loop2
+shared-slice-read-if2 c = search needs
 
 returns-2 : tie.Need-returns-2 Inv-loop μ-loop Inv-loop2 μ-loop2
 returns-2 c =
     let l = c .before .before .before in
-    let e = l .before .before .before in
-    scan-some (e .args .mins .now) (e .args .x) (e .args .found) (l .loop2 .next) (c .before .before .loop2-test .taken) (c .if2 .taken)
+    let e = l .before .before .before .before .before .before in
+    scan-some (l .loop2 .inv .1) (e .args .found) (l .loop2 .next) (c .before .before .loop2-test .taken) (e .pre) (c .if2 .taken)
 
 add-next-2 : tie.Need-add-next-2 Inv-loop μ-loop Inv-loop2 μ-loop2
 add-next-2 c = search needs
@@ -101,14 +113,14 @@ loop2-less c = search needs
 loop2-again : tie.Need-loop2-again Inv-loop μ-loop Inv-loop2 μ-loop2
 loop2-again c =
     let l = c .before .before .before in
-    let e = l .before .before .before in
-    (omega arith, scan-more (e .args .mins .now) (e .args .x) (l .loop2 .next) (l .loop2 .inv .1) (c .if2 .left))
+    let e = l .before .before .before .before .before .before in
+    (omega arith, l .loop2 .inv .1, scan-more (l .loop2 .inv .1) (l .loop2 .next) (omega (arith, e .pre)) (l .loop2 .inv .2) (c .if2 .left))
 
 returns-3 : tie.Need-returns-3 Inv-loop μ-loop Inv-loop2 μ-loop2
 returns-3 c =
     let l = c .before in
-    let e = l .before .before .before in
-    scan-none (e .args .mins .now) (e .args .x) (e .args .found) (l .loop2 .next) (l .loop2 .inv .1) (c .loop2-test .left)
+    let e = l .before .before .before .before .before .before in
+    scan-none (l .loop2 .inv .1) (e .args .found) (l .loop2 .next) (l .loop2 .inv .2) (c .loop2-test .left)
 
 pub none-within-spec : {M : Type 1} → statement M
 none-within-spec =
@@ -118,6 +130,8 @@ none-within-spec =
     μ-loop
     Inv-loop2
     μ-loop2
+    all-requires
+    minus-requires
     loop-holds
     sub-loop
     mul-a
@@ -136,8 +150,8 @@ none-within-spec =
     loop-less
     loop-again
     loop2-holds
-    mul-m
-    shared-slice-read-m
+    mul-if2
+    shared-slice-read-if2
     returns-2
     add-next-2
     loop2-less

@@ -1,0 +1,126 @@
+// One view through both: DISTINCT as the store has it, and the definitions.
+use crate::rule::kept;
+use distinct::Answer;
+use families::has;
+use show::Tally;
+use show::number;
+use show::text;
+
+// How many places are lent: more than any view here has rows, so that some must stay as they were.
+const PLACES: usize = 10;
+
+// What stands in each place before the call.
+const LENT: usize = 99;
+
+// How many views that differ are shown.
+const SHOWN: usize = 5;
+
+// How many positions were answered; a refusal, which none of these views earns, counts as more than there are.
+fn answered(answer: Answer) -> usize {
+    match answer {
+        Answer::Kept(n) => n,
+        Answer::Refused => LENT,
+    }
+}
+
+// The lent list as it should be: the marked positions in view order, and after them what stood there.
+fn expected(marks: u64) -> [usize; PLACES] {
+    let mut list = [LENT; PLACES];
+    let mut filled: usize = 0;
+    let mut next: usize = 0;
+    while next < PLACES {
+        let i = next;
+        next += 1;
+        if has(marks, i) {
+            list[filled] = i;
+            filled += 1;
+        }
+    }
+    list
+}
+
+// Both lists hold the same in every place.
+fn same(a: &[usize], b: &[usize]) -> bool {
+    let mut next: usize = 0;
+    while next < a.len() {
+        let i = next;
+        next += 1;
+        if i < b.len() {
+            if a[i] != b[i] {
+                return false;
+            }
+        }
+    }
+    a.len() == b.len()
+}
+
+// The answer is the rule's, to the last place of the list; no sublist with the view's family is shorter; and the rows listed have that family.
+fn agrees(view: &[u64], n: usize, list: &[usize]) -> bool {
+    let rule = kept(view);
+    if n != families::size(rule) {
+        return false;
+    }
+    let wanted = expected(rule);
+    if !same(list, &wanted) {
+        return false;
+    }
+    if n != families::fewest(view) {
+        return false;
+    }
+    families::family(view, families::marked(list, n)) == families::family(view, families::EVERY)
+}
+
+// The rows of a view, in letters.
+fn show_rows(view: &[u64]) {
+    let mut next: usize = 0;
+    while next < view.len() {
+        let i = next;
+        next += 1;
+        text(b" ");
+        show::row(show::Names::Letters, view[i]);
+    }
+}
+
+// The numbers of a list.
+fn show_list(list: &[usize]) {
+    let mut next: usize = 0;
+    while next < list.len() {
+        let i = next;
+        next += 1;
+        text(b" ");
+        number(list[i]);
+    }
+}
+
+// A view on which the two differ: its rows and both answers.
+fn show_difference(view: &[u64], n: usize, list: &[usize]) {
+    let rule = kept(view);
+    let wanted = expected(rule);
+    text(b"DIFFERENT on");
+    show_rows(view);
+    text(b"\n  the store answers ");
+    number(n);
+    text(b", and its list is");
+    show_list(list);
+    text(b"\n  by definition it is ");
+    number(families::size(rule));
+    text(b", and the list");
+    show_list(&wanted);
+    text(b"\n  the fewest rows that will do are ");
+    number(families::fewest(view));
+    text(b"\n");
+}
+
+// Compares on one view. The first few on which the two differ are shown.
+pub fn compare(tally: Tally, d: usize, view: &[u64]) -> Tally {
+    let mut list = [LENT; PLACES];
+    let n = answered(distinct::ask(d, view, &mut list));
+    let same = agrees(view, n, &list);
+    let shown = tally.differ;
+    if !same {
+        if shown < SHOWN {
+            show_difference(view, n, &list);
+        }
+    }
+    tally.count(same)
+}
