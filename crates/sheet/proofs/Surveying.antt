@@ -1,0 +1,130 @@
+-- What a pass over the places has learnt so far. Assumes nothing.
+use Prim.Native.Nat.{ℕ, zero, suc, _≤_, _<_}
+use mathlib.Core.Path.{_≡_, refl, sym, ap, _∙_}
+use mathlib.Core.Logic.{_≢_, inl, inr}
+use mathlib.Core.Bool.{Bool, true, false, _&&_, _||_, false≢true}
+use mathlib.Core.List.{List}
+use native.Mathlib.Nat.{not-suc-le-zero}
+use native.Mathlib.Decide.{ℕ-discrete}
+use native.Mathlib.Omega.{arith}
+use lib.Dec.{eqb, ltb}
+use lib.ListN.{length, set, replicate, length-set, length-replicate, getD-replicate}
+use borrow.Author.Tests.{lt-ltb, le-ltb, eq-eqb, ne-eqb}
+use Rattle.sets.proofs.Bools.{and-both, or-left, or-right, true-or-false, not-both}
+use Rattle.theory.specs.Pairings.{at}
+use Rattle.sets.specs.Sets.{within}
+use Rattle.theory.proofs.Places.{at-same, at-other}
+use Rattle.sheet.specs.declared.Sheet.{Sheet}
+use Rattle.sheet.specs.Upto.{countTo, allTo}
+use Rattle.sheet.specs.Sheets.{owns, owned, empty, placed}
+use Rattle.sheet.specs.Surveys.{Surveyed}
+use Rattle.sheet.proofs.UptoLaws.{all-at, all-intro, top-or-below, count-yes, count-no, count-le}
+
+-- one number fails, and so not all pass
+pub all-fails : (f : ℕ → Bool) (n i : ℕ) → i < n → f i ≡ false → allTo f n ≡ false
+all-fails f n i h e = elim (true-or-false (allTo f n)) [
+  | inl t ↦ absurd (not-both (all-at f n t i h) e)
+  | inr q ↦ q
+]
+
+-- ---- the places that are not used
+
+-- place i is used, or it has set 0 and owner 0
+abbrev pub spare : ℕ → List ℕ → List ℕ → ℕ → Bool
+spare used sets owners i = ltb i used || (eqb (at owners i) zero && eqb (at sets i) zero)
+
+-- every place before the next is so
+pub record Spare (used : ℕ) (sets owners : List ℕ) (next : ℕ) : Type 0 where
+  pub from : used ≤ next
+  pub before : (i : ℕ) → i < next → spare used sets owners i ≡ true
+
+module _ (used : ℕ) (sets owners : List ℕ) where
+  pub spare-start : Spare used sets owners used
+  spare-start = record { from = omega arith; before = λ i h. or-left (ltb i used) (eqb (at owners i) zero && eqb (at sets i) zero) (lt-ltb i used h) }
+
+module _ {used : ℕ} {sets owners : List ℕ} {next : ℕ} (s : Spare used sets owners next) where
+  unused : ltb next used ≡ false
+  unused = le-ltb next used (s .from)
+
+  pub spare-more : at owners next ≡ zero → at sets next ≡ zero → Spare used sets owners (suc next)
+  spare-more o e = record { from = omega (arith, s .from); before = before }
+    where
+      here : spare used sets owners next ≡ true
+      here = or-right (ltb next used) (eqb (at owners next) zero && eqb (at sets next) zero) (and-both (eqb (at owners next) zero) (eqb (at sets next) zero) (eq-eqb (at owners next) zero o) (eq-eqb (at sets next) zero e))
+
+      before : (i : ℕ) → i < suc next → spare used sets owners i ≡ true
+      before i h = elim (top-or-below next i h) [
+        | inl q ↦ ap (spare used sets owners) q ∙ here
+        | inr l ↦ s .before i l
+      ]
+
+  pub spare-owner : at owners next ≢ zero → next < 512 → false ≡ allTo (spare used sets owners) 512
+  spare-owner ne h = sym (all-fails (spare used sets owners) 512 next h (rw (unused, ne-eqb (at owners next) zero ne) refl))
+
+  pub spare-set : at owners next ≡ zero → at sets next ≢ zero → next < 512 → false ≡ allTo (spare used sets owners) 512
+  spare-set o ne h = sym (all-fails (spare used sets owners) 512 next h (rw (unused, eq-eqb (at owners next) zero o, ne-eqb (at sets next) zero ne) refl))
+
+  pub spare-all : 512 ≤ next → true ≡ allTo (spare used sets owners) 512
+  spare-all h = sym (all-intro (spare used sets owners) 512 (λ i l. s .before i (omega arith)))
+
+-- ---- the places that are used
+
+-- the places before the next are owned and have proper rows, and counts has how many each desk owns of them
+pub record Tallied (s : Sheet) (counts : List ℕ) (next : ℕ) : Type 0 where
+  pub upto : next ≤ s .used
+  pub before : (i : ℕ) → i < next → owned s i ≡ true
+  pub long : length counts ≡ 32
+  pub counted : (k : ℕ) → k < 32 → at counts k ≡ countTo (owns (s .owners) k) next
+
+module _ (s : Sheet) where
+  pub tally-start : Tallied s (replicate 32 zero) zero
+  unfolding countTo
+  tally-start = record { upto = omega arith; before = λ i h. absurd (not-suc-le-zero h); long = length-replicate 32 zero; counted = λ k h. getD-replicate 32 k zero zero h }
+
+  -- one used place is not right
+  pub tally-wrong : (counts : List ℕ) (i : ℕ) → i < s .used → owned s i ≡ false → Surveyed s (record { right = false; counts = counts })
+  unfolding placed
+  tally-wrong counts i h e = record { right-is = sym (ap (λ (b : Bool). b && allTo (λ j. ltb j (s .used) || empty s j) 512) (all-fails (owned s) (s .used) i h e)); counted = λ t. absurd (false≢true t) }
+
+module _ {s : Sheet} {counts : List ℕ} {next : ℕ} (t : Tallied s counts next) where
+  pub tally-owner : s .desks ≤ at (s .owners) next → owned s next ≡ false
+  tally-owner h = rw (le-ltb (at (s .owners) next) (s .desks) h) refl
+
+  pub tally-row : at (s .owners) next < s .desks → within (s .d) (at (s .sets) next) ≡ false → owned s next ≡ false
+  tally-row h e = rw (lt-ltb (at (s .owners) next) (s .desks) h, e) refl
+
+  -- so that a count can be raised
+  pub tally-small : (k : ℕ) → k < 32 → at counts k ≤ next
+  tally-small k h = rw (t .counted k h) (count-le (owns (s .owners) k) next)
+
+  pub tally-more : next < s .used → at (s .owners) next < s .desks → s .desks ≤ 32 → within (s .d) (at (s .sets) next) ≡ true
+      → Tallied s (set counts (at (s .owners) next) (suc (at counts (at (s .owners) next)))) (suc next)
+  tally-more u h w e =
+      record { upto = u; before = before; long = length-set counts o (suc (at counts o)) ∙ t .long; counted = λ k l. elim (ℕ-discrete k o) [ yes q ↦ same k l q | no ne ↦ other k l ne ] }
+    where
+      o : ℕ
+      o = at (s .owners) next
+
+      before : (i : ℕ) → i < suc next → owned s i ≡ true
+      before i l = elim (top-or-below next i l) [
+        | inl q ↦ ap (owned s) q ∙ rw (lt-ltb o (s .desks) h, e) refl
+        | inr m ↦ t .before i m
+      ]
+
+      same : (k : ℕ) → k < 32 → k ≡ o → at (set counts o (suc (at counts o))) k ≡ countTo (owns (s .owners) k) (suc next)
+      same k l q =
+          ap (at (set counts o (suc (at counts o)))) q ∙ at-same counts o (suc (at counts o)) (omega (arith, t .long))
+          ∙ ap (λ (j : ℕ). suc (at counts j)) (sym q) ∙ ap suc (t .counted k l) ∙ sym (count-yes (owns (s .owners) k) next (eq-eqb o k (sym q)))
+
+      other : (k : ℕ) → k < 32 → k ≢ o → at (set counts o (suc (at counts o))) k ≡ countTo (owns (s .owners) k) (suc next)
+      other k l ne =
+          at-other counts o (suc (at counts o)) k ne ∙ t .counted k l ∙ sym (count-no (owns (s .owners) k) next (ne-eqb o k (λ q. ne (sym q))))
+
+  pub tally-all : s .used ≤ next → (right : Bool) → right ≡ allTo (spare (s .used) (s .sets) (s .owners)) 512 → Surveyed s (record { right = right; counts = counts })
+  unfolding placed
+  tally-all h right e =
+      let all : next ≡ s .used = omega (arith, t .upto) in
+      record {
+        right-is = e ∙ sym (ap (λ (b : Bool). b && allTo (spare (s .used) (s .sets) (s .owners)) 512) (all-intro (owned s) (s .used) (λ i l. t .before i (omega arith))));
+        counted = λ _ k l. t .counted k l ∙ ap (countTo (owns (s .owners) k)) all;
+      }

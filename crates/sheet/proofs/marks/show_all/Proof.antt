@@ -1,0 +1,64 @@
+-- `show_all` meets its contract. The invariant: the words before the next are empty. Assumes nothing.
+use Prim.Native.Nat.{ℕ, zero, _+_, _*_, _-_, _≤_}
+use mathlib.Core.Path.{_≡_, refl, ap, _∙_}
+use mathlib.Core.List.{List}
+use native.Mathlib.Numerals.{unary-clauses}
+use native.Mathlib.Omega.{arith}
+use borrow.Author.Needs.{needs}
+use lib.ListN.{set}
+use Rattle.sheet.specs.Changes.{wiped}
+use Rattle.sheet.proofs.marks.show_all.Statement.{statement}
+use Rattle.sheet.proofs.marks.show_all.Tie as tie
+use Rattle.sheet.proofs.marks.show_all.Reads as reads
+use Rattle.sheet.proofs.marks.show_all.Lts as lts
+
+abbrev Inv-loop : tie.InvT-loop
+Inv-loop marks₀ desk first next₀ marks next = (next ≤ 4) × (marks ≡ wiped marks₀ (desk * 4) next)
+
+abbrev μ-loop : tie.MeasureT-loop
+μ-loop marks₀ desk first next₀ marks next = 4 - next
+
+mul-first : tie.Need-mul-first Inv-loop μ-loop
+mul-first c = search needs
+
+loop-holds : tie.Need-loop-holds Inv-loop μ-loop
+unfolding wiped
+loop-holds c = (omega arith, refl)
+
+add-marks : tie.Need-add-marks Inv-loop μ-loop
+add-marks c = search needs
+
+mul-marks : tie.Need-mul-marks Inv-loop μ-loop
+mul-marks c = search needs
+
+element-write-marks : tie.Need-element-write-marks Inv-loop μ-loop
+element-write-marks c = search needs
+
+add-next : tie.Need-add-next Inv-loop μ-loop
+add-next c = search needs
+
+loop-less : tie.Need-loop-less Inv-loop μ-loop
+loop-less c = search needs
+
+loop-again : tie.Need-loop-again Inv-loop μ-loop
+unfolding wiped
+loop-again c = (omega arith, simp unary-clauses (ap (λ (ms : List ℕ). set ms (c .before .before .args .desk * 4 + c .before .loop .next) zero) (c .before .loop .inv .1)))
+
+returns : tie.Need-returns Inv-loop μ-loop
+returns c = c .before .loop .inv .1 ∙ ap (wiped (c .before .before .args .marks .now) (c .before .before .args .desk * 4)) (omega (arith, c .before .loop .inv .0))
+
+pub show-all-spec : {M : Type 1} → statement M
+show-all-spec =
+    tie.close
+    (tie.spec
+    Inv-loop
+    μ-loop
+    mul-first
+    loop-holds
+    add-marks
+    mul-marks
+    element-write-marks
+    add-next
+    loop-less
+    loop-again
+    returns)

@@ -1,0 +1,60 @@
+-- The class sheet, read: what a desk holds and hides, what is owed, and which sheets are sound (document 01, 'The class sheet').
+use Prim.Native.Nat.{ℕ, zero, _+_, _-_, _*_, _/_, _%_}
+use mathlib.Core.Bool.{Bool, true, not, _&&_, _||_}
+use mathlib.Core.List.{List, [], _∷_}
+use lib.Dec.{eqb, leb, ltb}
+use Rattle.sets.specs.Sets.{has, within}
+use Rattle.theory.specs.Pairings.{at}
+use Rattle.sheet.specs.declared.Sheet.{Sheet}
+use Rattle.sheet.specs.Upto.{countTo, allTo, sumTo, those}
+
+-- 'one list of at most 512 inserted rows with their owners, in order of insertion': place i belongs to desk k
+abbrev pub owns : List ℕ → ℕ → ℕ → Bool
+owns owners k i = eqb (at owners i) k
+
+-- the rows of desk k in order of insertion, and how many they are
+abbrev pub own : Sheet → ℕ → List ℕ
+own s k = those (owns (s .owners) k) (s .sets) (s .used)
+
+abbrev pub held : Sheet → ℕ → ℕ
+held s k = countTo (owns (s .owners) k) (s .used)
+
+-- the word of marks that has table row n of desk k
+abbrev pub word : ℕ → ℕ → ℕ
+word k n = k * 4 + n / 64
+
+-- 'each desk's 256 hide marks': desk k hides table row n
+unfoldable pub hides : List ℕ → ℕ → ℕ → Bool
+hides marks k n = has (at marks (word k n)) (n % 64)
+
+-- 'Owed is the sum, over all desks, of 8 minus the rows held, where a desk holds fewer than 8.' (A difference below 0 is 0.)
+abbrev pub owed : Sheet → ℕ
+owed s = sumTo (λ k. 8 - held s k) (s .desks)
+
+-- ---- 'A sheet is sound when:'
+
+-- 'd is 1 to 64, T at most 256, desks 1 to 32; at most 512 places are used;'
+unfoldable pub shaped : Sheet → Bool
+shaped s = leb 1 (s .d) && leb (s .d) 64 && leb (s .rows) 256 && leb 1 (s .desks) && leb (s .desks) 32 && leb (s .used) 512
+
+-- 'each used place has an existing owner and a non-empty set within d;'
+abbrev pub owned : Sheet → ℕ → Bool
+owned s i = ltb (at (s .owners) i) (s .desks) && within (s .d) (at (s .sets) i)
+
+-- 'the used places come first, unused ones have set 0 and owner 0;'
+abbrev pub empty : Sheet → ℕ → Bool
+empty s i = eqb (at (s .owners) i) 0 && eqb (at (s .sets) i) 0
+
+unfoldable pub placed : Sheet → Bool
+placed s = allTo (owned s) (s .used) && allTo (λ i. ltb i (s .used) || empty s i) 512
+
+-- 'no desk holds over 64; used plus owed is at most 512;'
+unfoldable pub shared : Sheet → Bool
+shared s = allTo (λ k. leb (held s k) 64) (s .desks) && leb (s .used + owed s) 512
+
+-- 'marks stand only for existing desks and rows below T.'
+unfoldable pub markedRight : Sheet → Bool
+markedRight s = allTo (λ k. allTo (λ n. not (hides (s .marks) k n) || (ltb k (s .desks) && ltb n (s .rows))) 256) 32
+
+unfoldable pub sound : Sheet → Bool
+sound s = shaped s && placed s && shared s && markedRight s

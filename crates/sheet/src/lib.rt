@@ -1,0 +1,52 @@
+// The class sheet: who hides which table rows, and one list of inserted rows with their owners.
+ghost use mathlib.Core.Path.{_≡_};
+ghost use Rattle.sheet.specs.Changes.{freshSheet};
+
+pub mod marks; // marks.rt: the hide marks
+pub mod places; // places.rt: the places of the inserted rows
+
+// `rows` is the table's row count T. Desk k's marks are the four words from 4 k on: table row n is hidden where the word n / 64 of them has the value n % 64.
+// The first `used` places hold the inserted rows, in order of insertion.
+pub struct Sheet {
+    pub d: usize,
+    pub rows: usize,
+    pub desks: usize,
+    pub used: usize,
+    pub marks: [u64; Sheet::MARKS],
+    pub sets: [u64; Sheet::PLACES],
+    pub owners: [usize; Sheet::PLACES],
+}
+
+impl Sheet {
+    // The values that a column may have: the bits of a word.
+    pub const VALUES: usize = 64;
+    // The rows that a desk may hold, and those that it is promised.
+    pub const HELD: usize = 64;
+
+    pub const PROMISED: usize = 8;
+
+    pub const PLACES: usize = 512;
+
+    pub const DESKS: usize = 32;
+    // The rows that a table may have.
+    pub const ROWS: usize = 256;
+    // The words of one desk's marks, and of all desks'.
+    pub const WORDS: usize = Sheet::ROWS / Sheet::VALUES;
+
+    pub const MARKS: usize = Sheet::DESKS * Sheet::WORDS;
+
+    // The sheet of a class that begins: no marks, no rows.
+    pub fn fresh(d: usize, rows: usize, desks: usize) -> Sheet
+        ensures { λ r. ⌜ r ≡ freshSheet d rows desks ⌝ }
+    {
+        Sheet {
+            d,
+            rows,
+            desks,
+            used: 0,
+            marks: [0; Sheet::MARKS],
+            sets: [0; Sheet::PLACES],
+            owners: [0; Sheet::PLACES],
+        }
+    }
+}
