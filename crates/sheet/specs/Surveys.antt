@@ -1,8 +1,9 @@
--- What one pass over the places of a sheet learns.
-use Prim.Native.Nat.{ℕ, zero, _<_}
+-- What one pass over the places of a sheet learns, and one over its marks.
+use Prim.Native.Nat.{ℕ, zero, _+_, _*_, _/_, _%_, _<_}
 use mathlib.Core.Path.{_≡_}
 use mathlib.Core.Bool.{true}
 use mathlib.Core.List.{List, []}
+use Rattle.sets.specs.Sets.{has}
 use Rattle.theory.specs.Pairings.{at}
 use Rattle.sheet.specs.declared.Sheet.{Sheet}
 use Rattle.sheet.specs.declared.places.Survey.{Survey}
@@ -16,3 +17,12 @@ placesOf d desks used sets owners = record { d = d; rows = zero; desks = desks; 
 pub record Surveyed (s : Sheet) (r : Survey) : Type 0 where
   pub right-is : r .right ≡ placed s
   pub counted : r .right ≡ true → (k : ℕ) → k < 32 → at (r .counts) k ≡ held s k
+
+-- the marks alone, as a sheet without places
+abbrev pub marksOf : ℕ → ℕ → List ℕ → Sheet
+marksOf desks rows marks = record { d = zero; rows = rows; desks = desks; used = zero; marks = marks; sets = []; owners = [] }
+
+-- r has the rows that a word of marks may have: those below T, where its desk exists
+pub record MayHide (desks rows word r : ℕ) : Type 0 where
+  pub only : (v : ℕ) → has r v ≡ true → (word / 4 < desks) × (word % 4 * 64 + v < rows)
+  pub all : (v : ℕ) → v < 64 → word / 4 < desks → word % 4 * 64 + v < rows → has r v ≡ true

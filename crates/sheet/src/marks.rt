@@ -1,8 +1,10 @@
 // The hide marks, in words: desk k has the four words from 4 k on, and each word is a set of 64 table rows.
 ghost use mathlib.Core.Path.{_≡_};
 ghost use Prim.Native.Nat.{_<_, _*_};
-ghost use Rattle.sheet.specs.Sheets.{hides};
+ghost use lib.ListN.{length};
+ghost use Rattle.sheet.specs.Sheets.{hides, markedRight};
 ghost use Rattle.sheet.specs.Changes.{hide, wiped};
+ghost use Rattle.sheet.specs.Surveys.{MayHide, marksOf};
 use crate::Sheet;
 
 // The desk hides table row n.
@@ -35,4 +37,36 @@ pub fn show_all(marks: &mut [u64; Sheet::MARKS], desk: usize)
         marks[first + next] = 0;
         next += 1;
     }
+}
+
+// The rows that a word of marks may have: those below T, where its desk exists.
+fn may_hide(desks: usize, rows: usize, word: usize) -> u64
+    ensures { λ r. ⌜ MayHide desks rows word r ⌝ }
+{
+    if desks <= word / Sheet::WORDS {
+        return 0;
+    }
+    let first = word % Sheet::WORDS * Sheet::VALUES;
+    if rows <= first {
+        return 0;
+    }
+    if rows - first < Sheet::VALUES {
+        return sets::all(rows - first);
+    }
+    sets::all(Sheet::VALUES)
+}
+
+// Marks stand only for existing desks and rows below T.
+pub fn marks_right(desks: usize, rows: usize, marks: &[u64]) -> bool
+    requires { ⌜ length (now marks) ≡ 128 ⌝ }
+    ensures { λ r. ⌜ r ≡ markedRight (marksOf desks rows (now (marks .entry))) ⌝ }
+{
+    let mut next: usize = 0;
+    while next < Sheet::MARKS {
+        if !sets::subset(marks[next], may_hide(desks, rows, next)) {
+            return false;
+        }
+        next += 1;
+    }
+    true
 }
