@@ -1,5 +1,5 @@
 -- Laws of what is said of the numbers below n: one number more, dependence on the numbers below n alone, each of them, and two sums that differ at one number. Assumes nothing.
-use Prim.Native.Nat.{ℕ, zero, suc, _+_, _≤_, _<_}
+use Prim.Native.Nat.{ℕ, zero, suc, _+_, _*_, _≤_, _<_}
 use mathlib.Core.Path.{_≡_, refl, ap, _∙_}
 use mathlib.Core.Logic.{_≢_, _⊎_, inl, inr}
 use mathlib.Core.Bool.{Bool, true, false, cond}
@@ -97,12 +97,6 @@ unfolding countTo those
 length-those f rows zero = refl
 length-those f rows (suc n) = length-step (f n) (those f rows n) (at rows n) (countTo f n) (length-those f rows n)
 
--- every number passes a test that says so
-pub count-all : (f : ℕ → Bool) (n : ℕ) → ((i : ℕ) → i < n → f i ≡ true) → countTo f n ≡ n
-unfolding countTo
-count-all f zero p = refl
-count-all f (suc n) p = rw (count-all f n (λ i h. p i (omega arith)), p n (omega arith))
-
 -- ---- sums
 
 pub sum-part : (g : ℕ → ℕ) (n k : ℕ) → k < n → g k ≤ sumTo g n
@@ -126,3 +120,8 @@ pub sum-zero : (g : ℕ → ℕ) (n : ℕ) → ((i : ℕ) → i < n → g i ≡ 
 unfolding sumTo
 sum-zero g zero p = refl
 sum-zero g (suc n) p = rw (sum-zero g n (λ i h. p i (omega arith)), p n (omega arith))
+
+pub sum-most : (g : ℕ → ℕ) (n c : ℕ) → ((i : ℕ) → i < n → g i ≤ c) → sumTo g n ≤ n * c
+unfolding sumTo
+sum-most g zero c p = omega arith
+sum-most g (suc n) c p = omega (arith, sum-most g n c (λ i h. p i (omega arith)), p n (omega arith))

@@ -1,8 +1,10 @@
 -- The class sheet, read: what a desk holds and hides, what is owed, and which sheets are sound (document 01, 'The class sheet').
-use Prim.Native.Nat.{ℕ, zero, _+_, _-_, _*_, _/_, _%_}
-use mathlib.Core.Bool.{Bool, true, not, _&&_, _||_}
-use mathlib.Core.List.{List, [], _∷_}
+use Prim.Native.Nat.{ℕ, _+_, _-_, _*_, _/_, _%_}
+use mathlib.Core.Path.{_≡_}
+use mathlib.Core.Bool.{Bool, not, _&&_, _||_}
+use mathlib.Core.List.{List}
 use lib.Dec.{eqb, leb, ltb}
+use lib.ListN.{length}
 use Rattle.sets.specs.Sets.{has, within}
 use Rattle.theory.specs.Pairings.{at}
 use Rattle.sheet.specs.declared.Sheet.{Sheet}
@@ -18,6 +20,12 @@ own s k = those (owns (s .owners) k) (s .sets) (s .used)
 
 abbrev pub held : Sheet → ℕ → ℕ
 held s k = countTo (owns (s .owners) k) (s .used)
+
+-- the lists have their lengths: four words of marks for each of 32 desks, and 512 places
+pub record Whole (s : Sheet) : Type 0 where
+  pub marks-long : length (s .marks) ≡ 128
+  pub sets-long : length (s .sets) ≡ 512
+  pub owners-long : length (s .owners) ≡ 512
 
 -- the word of marks that has table row n of desk k
 abbrev pub word : ℕ → ℕ → ℕ

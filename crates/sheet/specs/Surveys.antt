@@ -1,4 +1,4 @@
--- What one pass over the places of a sheet learns, and one over its marks.
+-- What is learnt of a sheet that may be damaged: of its places, of its marks, and of all of it.
 use Prim.Native.Nat.{ℕ, zero, _+_, _*_, _/_, _%_, _<_}
 use mathlib.Core.Path.{_≡_}
 use mathlib.Core.Bool.{true}
@@ -7,22 +7,37 @@ use Rattle.sets.specs.Sets.{has}
 use Rattle.theory.specs.Pairings.{at}
 use Rattle.sheet.specs.declared.Sheet.{Sheet}
 use Rattle.sheet.specs.declared.places.Survey.{Survey}
-use Rattle.sheet.specs.Sheets.{held, placed}
+use Rattle.sheet.specs.Sheets.{held, placed, sound}
+
+-- the sheet of these parts
+abbrev pub sheetOf : ℕ → ℕ → ℕ → ℕ → List ℕ → List ℕ → List ℕ → Sheet
+sheetOf d rows desks used marks sets owners = record { d = d; rows = rows; desks = desks; used = used; marks = marks; sets = sets; owners = owners }
+
+-- ---- the places
 
 -- the places alone, as a sheet without a table
 abbrev pub placesOf : ℕ → ℕ → ℕ → List ℕ → List ℕ → Sheet
-placesOf d desks used sets owners = record { d = d; rows = zero; desks = desks; used = used; marks = []; sets = sets; owners = owners }
+placesOf d desks used sets owners = sheetOf d zero desks used [] sets owners
 
 -- whether the places are as a sound sheet has them, and then how many rows each desk holds
 pub record Surveyed (s : Sheet) (r : Survey) : Type 0 where
   pub right-is : r .right ≡ placed s
   pub counted : r .right ≡ true → (k : ℕ) → k < 32 → at (r .counts) k ≡ held s k
 
+-- ---- the marks
+
 -- the marks alone, as a sheet without places
 abbrev pub marksOf : ℕ → ℕ → List ℕ → Sheet
-marksOf desks rows marks = record { d = zero; rows = rows; desks = desks; used = zero; marks = marks; sets = []; owners = [] }
+marksOf desks rows marks = sheetOf zero rows desks zero marks [] []
 
 -- r has the rows that a word of marks may have: those below T, where its desk exists
 pub record MayHide (desks rows word r : ℕ) : Type 0 where
   pub only : (v : ℕ) → has r v ≡ true → (word / 4 < desks) × (word % 4 * 64 + v < rows)
   pub all : (v : ℕ) → v < 64 → word / 4 < desks → word % 4 * 64 + v < rows → has r v ≡ true
+
+-- ---- all of the sheet
+
+-- whether the sheet is sound, and then how many rows each desk holds
+pub record Checked (s : Sheet) (r : Survey) : Type 0 where
+  pub right-is : r .right ≡ sound s
+  pub counted : r .right ≡ true → (k : ℕ) → k < 32 → at (r .counts) k ≡ held s k

@@ -5,6 +5,7 @@ ghost use Rattle.sheet.specs.Changes.{freshSheet};
 pub mod marks; // marks.rt: the hide marks
 pub mod places; // places.rt: the places of the inserted rows
 pub mod shares; // shares.rt: what the desks hold together
+pub mod sound; // sound.rt: whether a sheet is sound
 
 // `rows` is the table's row count T. Desk k's marks are the four words from 4 k on: table row n is hidden where the word n / 64 of them has the value n % 64.
 // The first `used` places hold the inserted rows, in order of insertion.

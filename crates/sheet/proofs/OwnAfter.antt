@@ -1,0 +1,129 @@
+-- What each desk holds after a row is added or rows are taken out, and that the lists keep their lengths. Assumes nothing.
+use Prim.Native.Nat.{ℕ, zero, suc, _+_, _≤_, _<_}
+use mathlib.Core.Path.{_≡_, refl, sym, ap, _∙_}
+use mathlib.Core.Logic.{_≢_}
+use mathlib.Core.Bool.{Bool, true, false, not, _&&_}
+use mathlib.Core.List.{List, [], _∷_, _++_}
+use native.Mathlib.Omega.{arith}
+use lib.Dec.{eqb, leb, ltb}
+use lib.ListN.{length, set, take, drop, length-append, length-set, length-take, length-drop, drop-of-length-le}
+use borrow.Author.Tests.{eq-eqb, ne-eqb, eqb-true}
+use Rattle.theory.specs.Pairings.{at}
+use Rattle.theory.proofs.Places.{at-same, at-other}
+use Rattle.sheet.specs.declared.Sheet.{Sheet}
+use Rattle.sheet.specs.Upto.{countTo, those}
+use Rattle.sheet.specs.Sheets.{owns, own, held, Whole}
+use Rattle.sheet.specs.Changes.{adding, padded, stays, without}
+use Rattle.sheet.proofs.UptoLaws.{count-le, length-those, those-yes, those-no, those-same, those-ext}
+use Rattle.sheet.proofs.ClosingUp.{at-padded, length-padded, those-those, those-cut}
+
+pub length-own : (s : Sheet) (k : ℕ) → length (own s k) ≡ held s k
+length-own s k = length-those (owns (s .owners) k) (s .sets) (s .used)
+
+-- two desks that hold the same rows hold as many
+pub same-held : (s t : Sheet) (j k : ℕ) → own t j ≡ own s k → held t j ≡ held s k
+same-held s t j k e = sym (length-own t j) ∙ ap length e ∙ length-own s k
+
+-- ---- a row is added
+
+module _ {s : Sheet} (k row : ℕ) (w : Whole s) (h : s .used < 512) where
+  new-owner : at (set (s .owners) (s .used) k) (s .used) ≡ k
+  new-owner = at-same (s .owners) (s .used) k (omega arith)
+
+  before-it : (j : ℕ) → those (owns (set (s .owners) (s .used) k) j) (set (s .sets) (s .used) row) (s .used) ≡ own s j
+  before-it j =
+      those-same (owns (set (s .owners) (s .used) k) j) (owns (s .owners) j) (set (s .sets) (s .used) row) (s .sets) (s .used)
+      (λ i l. ap (λ (x : ℕ). eqb x j) (at-other (s .owners) (s .used) k i (omega arith)))
+      (λ i l. at-other (s .sets) (s .used) row i (omega arith))
+
+  pub own-adding-same : own (adding s k row) k ≡ own s k ++ (row ∷ [])
+  own-adding-same =
+      those-yes (owns (set (s .owners) (s .used) k) k) (s .used) (set (s .sets) (s .used) row) (eq-eqb _ _ new-owner)
+      ∙ rw (before-it k, at-same (s .sets) (s .used) row (omega arith))
+
+  pub own-adding-other : (j : ℕ) → j ≢ k → own (adding s k row) j ≡ own s j
+  own-adding-other j ne =
+      those-no (owns (set (s .owners) (s .used) k) j) (s .used) (set (s .sets) (s .used) row) (ne-eqb _ _ (λ q. ne (sym q ∙ new-owner)))
+      ∙ before-it j
+
+  pub held-adding-same : held (adding s k row) k ≡ suc (held s k)
+  held-adding-same =
+      omega (arith, length-own (adding s k row) k, ap length own-adding-same, length-append (own s k) (row ∷ []), length-own s k)
+
+  pub held-adding-other : (j : ℕ) → j ≢ k → held (adding s k row) j ≡ held s j
+  held-adding-other j ne = same-held s (adding s k row) j j (own-adding-other j ne)
+
+pub whole-adding : {s : Sheet} (k row : ℕ) → Whole s → Whole (adding s k row)
+whole-adding {s} k row w =
+    record {
+      marks-long = w .marks-long;
+      sets-long = length-set (s .sets) (s .used) row ∙ w .sets-long;
+      owners-long = length-set (s .owners) (s .used) k ∙ w .owners-long;
+    }
+
+-- ---- rows are taken out
+
+-- 'a filter of a filter': the rows of a desk once the places that pass f are closed up
+pub own-closed : (f : ℕ → Bool) (owners sets : List ℕ) (n j : ℕ) → those (owns (padded (those f owners n)) j) (padded (those f sets n)) (countTo f n) ≡ those (λ i. f i && owns owners j i) sets n
+own-closed f owners sets n j =
+    those-same (owns (padded (those f owners n)) j) (owns (those f owners n) j) (padded (those f sets n)) (those f sets n) (countTo f n)
+    (λ i h. ap (λ (x : ℕ). eqb x j) (at-padded (those f owners n) i))
+    (λ i h. at-padded (those f sets n) i)
+    ∙ those-those f (λ (x : ℕ). eqb x j) owners sets n
+
+-- what is another's is not taken out
+not-this : (x y z : Bool) → (x ≡ true → z ≡ true → ⊥) → (not (x && y) && z) ≡ z
+not-this true y true h = absurd (h refl refl)
+not-this true true false h = refl
+not-this true false false h = refl
+not-this false y z h = refl
+
+module _ (s : Sheet) (k from upto : ℕ) where
+  pub own-without-same : from ≤ upto → own (without s k from upto) k ≡ take from (own s k) ++ drop upto (own s k)
+  own-without-same h =
+      own-closed (stays (s .owners) k from upto) (s .owners) (s .sets) (s .used) k
+      ∙ those-cut (owns (s .owners) k) (s .sets) from upto h (s .used)
+
+  pub own-without-other : (j : ℕ) → j ≢ k → own (without s k from upto) j ≡ own s j
+  own-without-other j ne =
+      own-closed (stays (s .owners) k from upto) (s .owners) (s .sets) (s .used) j
+      ∙ those-ext (λ i. stays (s .owners) k from upto i && owns (s .owners) j i) (owns (s .owners) j) (s .sets) (s .used) (λ i h. theirs i)
+    where
+      theirs : (i : ℕ) → (stays (s .owners) k from upto i && owns (s .owners) j i) ≡ owns (s .owners) j i
+      theirs i =
+          not-this (owns (s .owners) k i) (leb from (countTo (owns (s .owners) k) i) && ltb (countTo (owns (s .owners) k) i) upto) (owns (s .owners) j i)
+          (λ p q. ne (sym (eqb-true (at (s .owners) i) j q) ∙ eqb-true (at (s .owners) i) k p))
+
+  pub held-without-same : from ≤ upto → held (without s k from upto) k ≡ length (take from (own s k)) + length (drop upto (own s k))
+  held-without-same h =
+      sym (length-own (without s k from upto) k) ∙ ap length (own-without-same h) ∙ length-append (take from (own s k)) (drop upto (own s k))
+
+  pub held-without-other : (j : ℕ) → j ≢ k → held (without s k from upto) j ≡ held s j
+  held-without-other j ne = same-held s (without s k from upto) j j (own-without-other j ne)
+
+  pub held-without-less : from ≤ upto → held (without s k from upto) k ≤ held s k
+  held-without-less h =
+      omega (arith, held-without-same h, length-take from (own s k), length-drop upto (own s k), length-own s k)
+
+  pub used-without : without s k from upto .used ≤ s .used
+  used-without = count-le (stays (s .owners) k from upto) (s .used)
+
+pub held-without-one : (s : Sheet) (k n : ℕ) → n < held s k → suc (held (without s k n (suc n)) k) ≡ held s k
+held-without-one s k n h =
+    omega (arith, held-without-same s k n (suc n) (omega arith), length-take n (own s k), length-drop (suc n) (own s k), length-own s k)
+
+pub own-without-all : (s : Sheet) (k : ℕ) → s .used ≤ 512 → own (without s k zero 512) k ≡ []
+own-without-all s k h =
+    own-without-same s k zero 512 (omega arith)
+    ∙ drop-of-length-le (own s k) {i = 512} (omega (arith, length-own s k, count-le (owns (s .owners) k) (s .used)))
+
+pub held-without-all : (s : Sheet) (k : ℕ) → s .used ≤ 512 → held (without s k zero 512) k ≡ zero
+held-without-all s k h = sym (length-own (without s k zero 512) k) ∙ ap length (own-without-all s k h)
+
+pub whole-without : {s : Sheet} (k from upto : ℕ) → Whole s → s .used ≤ 512 → Whole (without s k from upto)
+whole-without {s} k from upto w h =
+    record {
+      marks-long = w .marks-long;
+      sets-long = length-padded _ (omega (arith, length-those (stays (s .owners) k from upto) (s .sets) (s .used), used-without s k from upto));
+      owners-long = length-padded _ (omega (arith, length-those (stays (s .owners) k from upto) (s .owners) (s .used), used-without s k from upto));
+    }
