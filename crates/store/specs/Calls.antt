@@ -1,0 +1,73 @@
+-- A call on the class sheet: what is answered, the sheet that is handed back, and the lent list (document 01, the table of calls).
+use Prim.Native.Nat.{ℕ, zero, suc, _+_}
+use mathlib.Core.Bool.{Bool, true, false, cond, not, _&&_, _||_}
+use mathlib.Core.List.{List, [], _∷_, _++_}
+use lib.Dec.{eqb, leb, ltb}
+use lib.ListN.{length}
+use Rattle.sets.specs.declared.Found.{Found}
+use Rattle.sets.specs.declared.Found.the-variants.{At, Nothing}
+use Rattle.sets.specs.Tables.{badRow}
+use Rattle.sheet.specs.declared.Sheet.{Sheet}
+use Rattle.sheet.specs.Sheets.{own, hides, owed, sound}
+use Rattle.sheet.specs.Changes.{freshSheet, hiding, adding, without, resetting}
+use Rattle.store.specs.declared.Target.the-variants.{Table, Own}
+use Rattle.store.specs.declared.Call.{Call}
+use Rattle.store.specs.declared.Call.the-variants.{Delete, Insert, Reset, Look, Count, Distinct}
+use Rattle.store.specs.declared.Refusal.the-variants.{TooLarge, BadRow, Unsound, OtherTable, NoDesk, BadDesks}
+use Rattle.store.specs.declared.Answer.{Answer}
+use Rattle.store.specs.declared.Answer.the-variants.{Done}
+use Rattle.store.specs.Answers.{Case, _gives_, judged, accepted}
+use Rattle.store.specs.Desks.{serve, Told, telling}
+
+-- ---- refusals 1 and 2, of any call
+
+unfoldable pub badCase : Found → Case
+badCase Nothing = false gives BadRow zero
+badCase (At i) = true gives BadRow i
+
+unfoldable pub tableCases : ℕ → List ℕ → List Case
+tableCases d table = ((eqb d zero || ltb 64 d || ltb 256 (length table)) gives TooLarge) ∷ badCase (badRow d table) ∷ []
+
+-- ---- begin
+
+-- 'Begin is refused by 1, 2 and 13 only'
+unfoldable pub begunAnswer : ℕ → List ℕ → ℕ → Answer
+begunAnswer d table desks = judged (tableCases d table ++ (((eqb desks zero || ltb 32 desks) gives BadDesks) ∷ [])) Done
+
+-- 'a fresh sheet for this d and T'; refused, 'it then returns a sheet of zeros, which isn't sound'
+unfoldable pub begunSheet : ℕ → List ℕ → ℕ → Sheet
+begunSheet d table desks = cond (accepted (begunAnswer d table desks)) (freshSheet d (length table) desks) (freshSheet zero zero zero)
+
+-- ---- desk calls
+
+-- 'used plus owed is 512'
+unfoldable pub crowded : Sheet → Bool
+crowded s = eqb (s .used + owed s) 512
+
+-- refusals 3, 4 and 5
+unfoldable pub sheetCases : ℕ → List ℕ → Sheet → ℕ → List Case
+sheetCases d table s k =
+    (not (sound s) gives Unsound) ∷ (not (eqb (s .d) d && eqb (s .rows) (length table)) gives OtherTable) ∷ (leb (s .desks) k gives NoDesk) ∷ []
+
+-- what desk k is answered
+unfoldable pub answered : ℕ → List ℕ → Sheet → ℕ → Call → ℕ → Answer
+answered d table s k c places =
+    judged (tableCases d table ++ sheetCases d table s k) (serve d table (crowded s) places (hides (s .marks) k) (own s k) c)
+
+-- what an accepted call makes of the sheet; 'Nothing else on the sheet changes'
+unfoldable pub changed : Sheet → ℕ → Call → Sheet
+changed s k (Delete (Table n)) = hiding s k n
+changed s k (Delete (Own n)) = without s k n (suc n)
+changed s k (Insert set) = adding s k set
+changed s k Reset = resetting s k
+changed s k (Look n) = s
+changed s k Count = s
+changed s k Distinct = s
+
+-- 'A refusal .. hands back the sheet it was handed'
+unfoldable pub sheetAfter : ℕ → List ℕ → Sheet → ℕ → Call → ℕ → Sheet
+sheetAfter d table s k c places = cond (accepted (answered d table s k c places)) (changed s k c) s
+
+-- what desk k is told: the answer, and its list
+abbrev pub told : ℕ → List ℕ → Sheet → ℕ → Call → List ℕ → Told
+told d table s k c list = telling d table (hides (s .marks) k) (own s k) list (answered d table s k c (length list))
