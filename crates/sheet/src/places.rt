@@ -91,13 +91,13 @@ fn seen_with(desk: usize, owner: usize, seen: usize) -> usize
 }
 
 // The rows and owners without the desk's rows number `from` to `upto` - 1, closed up in order, go into empty places. Answers how many are left.
-pub fn close_up(
+pub fn close_up<'a>(
     desk: usize,
     from: usize,
     upto: usize,
     used: usize,
-    sets: &[u64; Sheet::PLACES],
-    owners: &[usize; Sheet::PLACES],
+    sets: &'a [u64; Sheet::PLACES],
+    owners: &'a [usize; Sheet::PLACES],
     rest: &mut [u64; Sheet::PLACES],
     whose: &mut [usize; Sheet::PLACES],
 ) -> usize

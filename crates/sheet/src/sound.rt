@@ -33,14 +33,14 @@ fn shaped(d: usize, rows: usize, desks: usize, used: usize) -> bool
 }
 
 // `right` where the sheet of these parts is sound; then counts[k] is how many rows desk k holds.
-pub fn check(
+pub fn check<'a>(
     d: usize,
     rows: usize,
     desks: usize,
     used: usize,
-    marks: &[u64; Sheet::MARKS],
-    sets: &[u64; Sheet::PLACES],
-    owners: &[usize; Sheet::PLACES],
+    marks: &'a [u64; Sheet::MARKS],
+    sets: &'a [u64; Sheet::PLACES],
+    owners: &'a [usize; Sheet::PLACES],
 ) -> Survey
     ensures { λ r. ⌜ Checked (sheetOf d rows desks used (now (marks .entry)) (now (sets .entry)) (now (owners .entry))) r ⌝ }
 {
