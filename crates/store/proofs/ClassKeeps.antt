@@ -1,0 +1,143 @@
+-- Our store meets demand 3. Assumes nothing.
+use Prim.Native.Nat.{ℕ, _+_, _≤_, _<_}
+use mathlib.Core.Path.{_≡_, refl, sym, ap, _∙_}
+use mathlib.Core.Logic.{_≢_}
+use mathlib.Core.Bool.{Bool, true, false}
+use mathlib.Core.List.{List, [], _∷_}
+use native.Mathlib.Omega.{arith}
+use lib.Dec.{leb, ltb}
+use lib.ListN.{length}
+use borrow.Author.Tests.{ltb-true, lt-ltb, leb-true, leb-false, lt-leb, eqb-true, eq-eqb}
+use Rattle.sets.proofs.Bools.{and-left, and-right, and-both}
+use Rattle.sheet.specs.declared.Sheet.{Sheet}
+use Rattle.sheet.specs.Sheets.{own, owed, hides}
+use Rattle.sheet.proofs.SoundParts.{Sound, sound-parts}
+use Rattle.store.specs.declared.Call.{Call}
+use Rattle.store.specs.declared.Refusal.the-variants.{NoDesk}
+use Rattle.store.specs.declared.Answer.{Answer}
+use Rattle.store.specs.Answers.{_gives_, judged, accepted, numberOf}
+use Rattle.store.specs.Desks.{view, serve, listAfter, telling}
+use Rattle.store.specs.Calls.{begunAnswer, crowded}
+use Rattle.store.specs.Promise.{Turn, Store, hiddenIn, ownIn, member, alone, history, heldBy, usedBy, owedBy, properCall, proper, Demand3, sheetOn, classStore}
+use Rattle.store.proofs.Judging.{Good, good-parts, given, not-given, skipped}
+use Rattle.store.proofs.SheetRuns.{reached, answered-here}
+use Rattle.store.proofs.DeskRuns.{agrees, no-history, held-is, used-is, owed-is}
+use Rattle.store.proofs.Told.{serve-same, telling-same, ten-is, serve-ten, ten-serve, serve-next, serve-but-ten}
+
+module _ {d : ℕ} {table : List ℕ} {desks : ℕ} (good : Good d table desks) (past : List Turn) where
+  abbrev tell : Store
+  tell = classStore d table desks
+
+  abbrev s : Sheet
+  s = sheetOn d table desks past
+
+  s-sound : Sound s
+  s-sound = sound-parts s (reached good past .stays-sound)
+
+  -- ---- the limits
+
+  most-held : (k : ℕ) → heldBy tell k past ≤ 64
+  unfolding ownIn
+  most-held k = go (leb desks k) refl
+    where
+      go : (b : Bool) → leb desks k ≡ b → heldBy tell k past ≤ 64
+      go true e = rw (no-history good past k (leb-true desks k e)) (omega arith)
+      go false e =
+          let h = leb-false desks k e in
+          omega (arith, held-is good past k h, s-sound .share k (omega (arith, reached good past .same-desks)))
+
+  most-used : usedBy tell desks past ≤ 512
+  most-used = omega (arith, used-is good past, s-sound .places)
+
+  -- ---- one turn
+
+  module _ (t : Turn) where
+    -- what is served to desk t .desk as the sheet has it
+    abbrev served : Answer
+    served = serve d table (crowded s) (length (t .list)) (hides (s .marks) (t .desk)) (own s (t .desk)) (t .call)
+
+    told-here : tell past t .answer ≡ judged ((leb desks (t .desk) gives NoDesk) ∷ []) served
+    unfolding classStore
+    told-here = answered-here good (reached good past) (t .desk) (t .call) (length (t .list))
+
+    desk-there : proper d desks t ≡ true → (t .desk < desks) × (properCall d (t .call) ≡ true)
+    unfolding proper
+    desk-there p =
+        (ltb-true (t .desk) desks (and-left (ltb (t .desk) desks) (properCall d (t .call)) p), and-right (ltb (t .desk) desks) (properCall d (t .call)) p)
+
+    told-served : t .desk < desks → tell past t .answer ≡ served
+    told-served h = told-here ∙ not-given (leb desks (t .desk)) NoDesk served (lt-leb desks (t .desk) h)
+
+    next-accepted : proper d desks t ≡ true → heldBy tell (t .desk) past < 8 → accepted (tell past t .answer) ≡ true
+    next-accepted p few =
+        let q = desk-there p in
+        ap accepted (told-served (q .0))
+        ∙ serve-next d table (crowded s) (length (t .list)) (hides (s .marks) (t .desk)) (own s (t .desk)) (t .call) (q .1)
+        (omega (arith, ap length (agrees good past (t .desk) (q .0) .rows)))
+
+    ten-given : numberOf (tell past t .answer) ≡ 10
+        → (proper d desks t ≡ true) × (8 ≤ heldBy tell (t .desk) past) × (heldBy tell (t .desk) past < 64) × (usedBy tell desks past + owedBy tell desks past ≡ 512)
+    unfolding proper judged crowded
+    ten-given e =
+        let p = skipped 10 (leb desks (t .desk)) NoDesk [] served (omega arith) (sym (ap numberOf told-here) ∙ e) in
+        let h = leb-false desks (t .desk) (p .0) in
+        let q = serve-ten d table (crowded s) (length (t .list)) (hides (s .marks) (t .desk)) (own s (t .desk)) (t .call) (p .1) in
+        let rows = ap length (agrees good past (t .desk) h .rows) in (
+          and-both (ltb (t .desk) desks) (properCall d (t .call)) (lt-ltb (t .desk) desks h) (q .0),
+          omega (arith, q .1),
+          omega (arith, q .2),
+          omega (arith, eqb-true (s .used + owed s) 512 (q .3), used-is good past, owed-is good past),
+        )
+
+    given-ten : (proper d desks t ≡ true) × (8 ≤ heldBy tell (t .desk) past) × (heldBy tell (t .desk) past < 64) × (usedBy tell desks past + owedBy tell desks past ≡ 512)
+        → numberOf (tell past t .answer) ≡ 10
+    unfolding crowded
+    given-ten g =
+        let q = desk-there (g .0) in
+        let rows = ap length (agrees good past (t .desk) (q .0) .rows) in
+        ap numberOf (told-served (q .0))
+        ∙ ten-serve d table (crowded s) (length (t .list)) (hides (s .marks) (t .desk)) (own s (t .desk)) (t .call) (q .1) (omega (arith, g .1)) (omega (arith, g .2))
+        (eq-eqb (s .used + owed s) 512 (omega (arith, used-is good past, owed-is good past, g .3)))
+
+    abbrev h : List Call
+    h = history tell (t .desk) past
+
+    -- what the desk alone is served
+    abbrev mine : (ℕ → Bool) → List ℕ → Answer
+    mine hid rows = serve d table false (length (t .list)) hid rows (t .call)
+
+    told-alone : numberOf (tell past t .answer) ≢ 10 → tell past t ≡ alone d table desks h t
+    unfolding classStore alone listAfter
+    told-alone ne = go (leb desks (t .desk)) refl
+      where
+        go : (b : Bool) → leb desks (t .desk) ≡ b → tell past t ≡ alone d table desks h t
+        go true e =
+            ap (telling d table (hides (s .marks) (t .desk)) (own s (t .desk)) (t .list)) (told-here ∙ given (leb desks (t .desk)) NoDesk served e)
+            ∙ sym (ap (telling d table (member (hiddenIn h)) (ownIn h) (t .list)) (given (leb desks (t .desk)) NoDesk (mine (member (hiddenIn h)) (ownIn h)) e))
+        go false e =
+            let there = leb-false desks (t .desk) e in
+            let g = agrees good past (t .desk) there in
+            let hid = hides (s .marks) (t .desk) in
+            let same : (n : ℕ) → n < length table → hid n ≡ member (hiddenIn h) n = λ n l. g .marks n (omega (arith, good .small)) in
+            ap (telling d table hid (own s (t .desk)) (t .list))
+            (told-served there ∙ serve-but-ten d table (crowded s) (length (t .list)) hid (own s (t .desk)) (t .call) (λ q. ne (ap numberOf (told-served there) ∙ q)))
+            ∙ ap (λ (o : List ℕ). telling d table hid o (t .list) (mine hid o)) (g .rows)
+            ∙ ap (telling d table hid (ownIn h) (t .list)) (serve-same table hid (member (hiddenIn h)) (ownIn h) same d false (length (t .list)) (t .call))
+            ∙ telling-same table hid (member (hiddenIn h)) (ownIn h) same d (t .list) (mine (member (hiddenIn h)) (ownIn h))
+            ∙ sym (ap (telling d table (member (hiddenIn h)) (ownIn h) (t .list)) (not-given (leb desks (t .desk)) NoDesk (mine (member (hiddenIn h)) (ownIn h)) e))
+
+    ten-writes-nothing : numberOf (tell past t .answer) ≡ 10 → tell past t .list ≡ t .list
+    unfolding classStore listAfter
+    ten-writes-nothing e = ap (λ (a : Answer). listAfter d (view table (hides (s .marks) (t .desk)) (own s (t .desk))) a (t .list)) (ten-is (tell past t .answer) e)
+
+pub class-keeps : (d : ℕ) (table : List ℕ) (desks : ℕ) → accepted (begunAnswer d table desks) ≡ true → Demand3 d table desks (classStore d table desks)
+class-keeps d table desks begun =
+    let good = good-parts d table desks begun in
+    record {
+      next = next-accepted good;
+      desk-limit = most-held good;
+      class-limit = most-used good;
+      no-room = λ past t. (ten-given good past t, given-ten good past t);
+      as-alone = told-alone good;
+      no-room-list = ten-writes-nothing good;
+    }

@@ -1,0 +1,137 @@
+-- What is known once no refusal applies: of an accepted begin, and of an accepted call. Assumes nothing.
+use Prim.Native.Nat.{ℕ, zero, _≤_, _<_}
+use mathlib.Core.Path.{_≡_, refl, sym, _∙_}
+use mathlib.Core.Logic.{_≢_}
+use mathlib.Core.Bool.{Bool, true, false, not, _&&_, false≢true, _||_}
+use mathlib.Core.List.{List, [], _∷_}
+use native.Mathlib.Omega.{arith}
+use lib.Dec.{eqb, leb, ltb}
+use lib.ListN.{length}
+use borrow.Author.Tests.{ltb-false, leb-false, eqb-false, not-false, le-ltb, ne-eqb}
+use Rattle.sets.specs.declared.Found.{Found}
+use Rattle.sets.specs.declared.Found.the-variants.{At, Nothing}
+use Rattle.sets.specs.Sets.{within}
+use Rattle.sets.specs.Tables.{badRow}
+use Rattle.store.specs.declared.Target.the-variants.{Table, Own}
+use Rattle.store.specs.declared.Call.{Call}
+use Rattle.store.specs.declared.Call.the-variants.{Delete, Insert, Reset, Look, Count, Distinct}
+use Rattle.store.specs.declared.Refusal.{Refusal}
+use Rattle.store.specs.declared.Refusal.the-variants.{TooLarge, NoRow, HiddenAlready, BadSet, Full, NoRoom, BadDesks}
+use Rattle.store.specs.declared.Answer.{Answer}
+use Rattle.store.specs.declared.Answer.the-variants.{Done, Refused}
+use Rattle.store.specs.Answers.{Case, _gives_, judged, accepted, number, numberOf}
+use Rattle.store.specs.Desks.{serve}
+use Rattle.store.specs.Calls.{badCase, tableCases, begunAnswer}
+
+-- where the answer accepts, the first case does not apply
+pub passed : (b : Bool) (r : Refusal) (cs : List Case) (a : Answer) → accepted (judged ((b gives r) ∷ cs) a) ≡ true → (b ≡ false) × (accepted (judged cs a) ≡ true)
+unfolding judged accepted
+passed true r cs a t = absurd (false≢true t)
+passed false r cs a t = (refl, t)
+
+-- one case, and whether it applies
+pub given : (b : Bool) (r : Refusal) (a : Answer) → b ≡ true → judged ((b gives r) ∷ []) a ≡ Refused r
+unfolding judged
+given b r a e = rw e
+
+pub not-given : (b : Bool) (r : Refusal) (a : Answer) → b ≡ false → judged ((b gives r) ∷ []) a ≡ a
+unfolding judged
+not-given b r a e = rw e
+
+-- where the answer's number is x: a first case of another number does not apply, and the one case does where the answer behind it has another number
+pub skipped : (x : ℕ) (b : Bool) (r : Refusal) (cs : List Case) (a : Answer) → number r ≢ x → numberOf (judged ((b gives r) ∷ cs) a) ≡ x
+    → (b ≡ false) × (numberOf (judged cs a) ≡ x)
+unfolding judged
+skipped x true r cs a ne e = absurd (ne e)
+skipped x false r cs a ne e = (refl, e)
+
+pub applied : (x : ℕ) (b : Bool) (r : Refusal) (a : Answer) → numberOf a ≢ x → numberOf (judged ((b gives r) ∷ []) a) ≡ x → b ≡ true
+unfolding judged
+applied x true r a ne e = refl
+applied x false r a ne e = absurd (ne e)
+
+pub or-no : (a b : Bool) → (a || b) ≡ false → (a ≡ false) × (b ≡ false)
+or-no false b e = (refl, e)
+or-no true b e = absurd (false≢true (sym e))
+
+-- ---- begin
+
+pub record Good (d : ℕ) (table : List ℕ) (desks : ℕ) : Type 0 where
+  pub some-value : 1 ≤ d
+  pub values : d ≤ 64
+  pub small : length table ≤ 256
+  pub right : badRow d table ≡ Nothing
+  pub some-desk : 1 ≤ desks
+  pub few-desks : desks ≤ 32
+
+none-bad : (f : Found) → badCase f .applies ≡ false → f ≡ Nothing
+unfolding badCase
+none-bad Nothing e = refl
+none-bad (At i) e = absurd (false≢true (sym e))
+
+pub good-parts : (d : ℕ) (table : List ℕ) (desks : ℕ) → accepted (begunAnswer d table desks) ≡ true → Good d table desks
+unfolding begunAnswer tableCases
+good-parts d table desks t =
+    let large = passed (eqb d zero || ltb 64 d || ltb 256 (length table)) TooLarge _ Done t in
+    let bad = passed (badCase (badRow d table) .applies) (badCase (badRow d table) .refusal) _ Done (large .1) in
+    let number = or-no (eqb desks zero) (ltb 32 desks) (passed (eqb desks zero || ltb 32 desks) BadDesks [] Done (bad .1) .0) in
+    let rows = or-no (eqb d zero || ltb 64 d) (ltb 256 (length table)) (large .0) in
+    let values = or-no (eqb d zero) (ltb 64 d) (rows .0) in
+    let d-not : d ≡ zero → ⊥ = eqb-false d zero (values .0) in
+    let desks-not : desks ≡ zero → ⊥ = eqb-false desks zero (number .0) in
+    record {
+      some-value = omega arith;
+      values = ltb-false 64 d (values .1);
+      small = ltb-false 256 (length table) (rows .1);
+      right = none-bad (badRow d table) (bad .0);
+      some-desk = omega arith;
+      few-desks = ltb-false 32 desks (number .1);
+    }
+
+pub parts-good : {d : ℕ} {table : List ℕ} {desks : ℕ} → Good d table desks → accepted (begunAnswer d table desks) ≡ true
+unfolding begunAnswer tableCases badCase judged accepted
+parts-good {d} {table} {desks} g =
+    rw (
+      ne-eqb d zero (λ e. absurd (omega (arith, g .some-value))),
+      le-ltb 64 d (g .values),
+      le-ltb 256 (length table) (g .small),
+      g .right,
+      ne-eqb desks zero (λ e. absurd (omega (arith, g .some-desk))),
+      le-ltb 32 desks (g .few-desks),
+    )
+
+-- ---- a call
+
+-- what an accepted call has
+abbrev pub Allowed : ℕ → ℕ → Bool → List ℕ → Call → Type 0
+Allowed d rows full own (Delete (Table n)) = n < rows
+Allowed d rows full own (Delete (Own n)) = n < length own
+Allowed d rows full own (Insert set) = (within d set ≡ true) × (length own < 64) × (full ≡ true → length own < 8)
+Allowed d rows full own Reset = Unit {0}
+Allowed d rows full own (Look n) = Unit {0}
+Allowed d rows full own Count = Unit {0}
+Allowed d rows full own Distinct = Unit {0}
+
+and-no : (a b : Bool) → (a && b) ≡ false → b ≡ true → a ≡ false
+and-no false b e t = refl
+and-no true b e t = absurd (false≢true (sym e ∙ t))
+
+pub allowed : (d : ℕ) (table : List ℕ) (full : Bool) (places : ℕ) (hid : ℕ → Bool) (own : List ℕ) (c : Call) → accepted (serve d table full places hid own c) ≡ true
+    → Allowed d (length table) full own c
+unfolding serve
+allowed d table full places hid own (Delete (Table n)) t =
+    leb-false (length table) n (passed (leb (length table) n) NoRow ((hid n gives HiddenAlready) ∷ []) Done t .0)
+allowed d table full places hid own (Delete (Own n)) t = leb-false (length own) n (passed (leb (length own) n) NoRow [] Done t .0)
+allowed d table full places hid own (Insert set) t =
+    let room : List Case = ((leb 8 (length own) && full) gives NoRoom) ∷ [] in
+    let one = passed (not (within d set)) BadSet ((leb 64 (length own) gives Full) ∷ room) Done t in
+    let two = passed (leb 64 (length own)) Full room Done (one .1) in
+    let three = passed (leb 8 (length own) && full) NoRoom [] Done (two .1) in (
+      not-false (within d set) (one .0),
+      leb-false 64 (length own) (two .0),
+      λ e. leb-false 8 (length own) (and-no (leb 8 (length own)) full (three .0) e),
+    )
+allowed d table full places hid own Reset t = tt
+allowed d table full places hid own (Look n) t = tt
+allowed d table full places hid own Count t = tt
+allowed d table full places hid own Distinct t = tt

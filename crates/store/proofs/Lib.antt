@@ -1,0 +1,13 @@
+-- `Judging`: what an accepted begin and an accepted call have. `SheetRuns`: every sheet of a run is sound. `DeskRuns`: a desk on the sheet is as its history says.
+-- `Told`: what a desk is told. `ClassKeeps`: our store meets demand 3. `OnlyStore`: no other store does. `AsIfAlone`: a desk is told what it would be told alone.
+-- `WrongStores`, `PlacesAlone`: the wrong stores that demand 3 shuts out. `TwelveNever`: refusal 12 is never given.
+pub mod Judging
+pub mod SheetRuns
+pub mod DeskRuns
+pub mod Told
+pub mod ClassKeeps
+pub mod OnlyStore
+pub mod AsIfAlone
+pub mod WrongStores
+pub mod PlacesAlone
+pub mod TwelveNever

@@ -1,0 +1,149 @@
+-- What a desk is told depends on its marks at table rows alone, and on the other desks by refusal 10 alone; who is given refusal 10. Assumes nothing.
+use Prim.Native.Nat.{ℕ, _≤_, _<_}
+use mathlib.Core.Path.{_≡_, refl, ap}
+use mathlib.Core.Logic.{_≢_}
+use mathlib.Core.Bool.{Bool, true, false, cond, not, _&&_, false≢true}
+use mathlib.Core.List.{List, [], _∷_, _++_}
+use native.Mathlib.Omega.{arith}
+use lib.Dec.{leb, ltb}
+use lib.ListN.{length}
+use borrow.Author.Tests.{leb-true, leb-false, le-leb, lt-leb, not-false}
+use Rattle.sets.specs.Sets.{within}
+use Rattle.sets.proofs.Bools.{and-left, and-right}
+use Rattle.theory.specs.Pairings.{at}
+use Rattle.theory.specs.Kept.{kept}
+use Rattle.sheet.proofs.UptoLaws.{those-ext}
+use Rattle.store.specs.declared.Target.the-variants.{Table, Own}
+use Rattle.store.specs.declared.Call.{Call}
+use Rattle.store.specs.declared.Call.the-variants.{Delete, Insert, Reset, Look, Count, Distinct}
+use Rattle.store.specs.declared.Refusal.{Refusal}
+use Rattle.store.specs.declared.Refusal.the-variants.{TooLarge, BadRow, Unsound, OtherTable, NoDesk, NoRow, HiddenAlready, BadSet, Full, NoRoom, ShortList, LongView, BadDesks}
+use Rattle.store.specs.declared.Answer.{Answer}
+use Rattle.store.specs.declared.Answer.the-variants.{Done, Seen, Counted, Listed, Refused}
+use Rattle.store.specs.Answers.{Case, _gives_, judged, accepted, numberOf}
+use Rattle.store.specs.Desks.{view, serve, listAfter, telling}
+use Rattle.store.specs.Promise.{properCall}
+use Rattle.store.proofs.Judging.{skipped, applied}
+
+-- ---- marks at table rows alone
+
+module _ (table : List ℕ) (hid hid′ : ℕ → Bool) (own : List ℕ) (same : (n : ℕ) → n < length table → hid n ≡ hid′ n) where
+  pub view-same : view table hid own ≡ view table hid′ own
+  unfolding view
+  view-same =
+      ap (λ (l : List ℕ). l ++ own)
+      (those-ext (λ i. not (hid i)) (λ i. not (hid′ i)) table (length table) (λ i h. ap not (same i h)))
+
+  pub serve-same : (d : ℕ) (full : Bool) (places : ℕ) (c : Call) → serve d table full places hid own c ≡ serve d table full places hid′ own c
+  unfolding serve judged
+  serve-same d full places (Delete (Table n)) = go (leb (length table) n) refl
+    where
+      go : (b : Bool) → leb (length table) n ≡ b → cond b (Refused NoRow) (cond (hid n) (Refused HiddenAlready) Done) ≡ cond b (Refused NoRow) (cond (hid′ n) (Refused HiddenAlready) Done)
+      go true e = refl
+      go false e = rw (same n (leb-false (length table) n e))
+  serve-same d full places (Delete (Own n)) = refl
+  serve-same d full places (Insert set) = refl
+  serve-same d full places Reset = refl
+  serve-same d full places (Look n) = rw view-same
+  serve-same d full places Count = rw view-same
+  serve-same d full places Distinct = rw view-same
+
+  pub telling-same : (d : ℕ) (list : List ℕ) (a : Answer) → telling d table hid own list a ≡ telling d table hid′ own list a
+  telling-same d list a = rw view-same
+
+-- a refusal writes nothing
+pub refused-list : (d : ℕ) (rows : List ℕ) (r : Refusal) (list : List ℕ) → listAfter d rows (Refused r) list ≡ list
+unfolding listAfter
+refused-list d rows r list = refl
+
+-- ---- refusal 10
+
+pub ten-is : (a : Answer) → numberOf a ≡ 10 → a ≡ Refused NoRoom
+ten-is Done e = absurd (omega arith)
+ten-is (Seen set) e = absurd (omega arith)
+ten-is (Counted rows held) e = absurd (omega arith)
+ten-is (Listed n) e = absurd (omega arith)
+ten-is (Refused TooLarge) e = absurd (omega arith)
+ten-is (Refused (BadRow i)) e = absurd (omega arith)
+ten-is (Refused Unsound) e = absurd (omega arith)
+ten-is (Refused OtherTable) e = absurd (omega arith)
+ten-is (Refused NoDesk) e = absurd (omega arith)
+ten-is (Refused NoRow) e = absurd (omega arith)
+ten-is (Refused HiddenAlready) e = absurd (omega arith)
+ten-is (Refused BadSet) e = absurd (omega arith)
+ten-is (Refused Full) e = absurd (omega arith)
+ten-is (Refused NoRoom) e = refl
+ten-is (Refused ShortList) e = absurd (omega arith)
+ten-is (Refused LongView) e = absurd (omega arith)
+ten-is (Refused BadDesks) e = absurd (omega arith)
+
+module _ (d : ℕ) (table : List ℕ) (full : Bool) (places : ℕ) (hid : ℕ → Bool) (own : List ℕ) where
+  pub serve-ten : (c : Call) → numberOf (serve d table full places hid own c) ≡ 10 → (properCall d c ≡ true) × (8 ≤ length own) × (length own < 64) × (full ≡ true)
+  unfolding serve properCall judged
+  serve-ten (Delete (Table n)) e =
+      absurd (omega (
+        arith,
+        skipped 10 (hid n) HiddenAlready [] Done (omega arith)
+            (skipped 10 (leb (length table) n) NoRow ((hid n gives HiddenAlready) ∷ []) Done (omega arith) e .1) .1,
+      ))
+  serve-ten (Delete (Own n)) e = absurd (omega (arith, skipped 10 (leb (length own) n) NoRow [] Done (omega arith) e .1))
+  serve-ten (Insert set) e =
+      let room : List Case = ((leb 8 (length own) && full) gives NoRoom) ∷ [] in
+      let one = skipped 10 (not (within d set)) BadSet ((leb 64 (length own) gives Full) ∷ room) Done (omega arith) e in
+      let two = skipped 10 (leb 64 (length own)) Full room Done (omega arith) (one .1) in
+      let three = applied 10 (leb 8 (length own) && full) NoRoom Done (omega arith) (two .1) in (
+        not-false (within d set) (one .0),
+        leb-true 8 (length own) (and-left (leb 8 (length own)) full three),
+        leb-false 64 (length own) (two .0),
+        and-right (leb 8 (length own)) full three,
+      )
+  serve-ten Reset e = absurd (omega arith)
+  serve-ten (Look n) e =
+      absurd (omega (arith, skipped 10 (leb (length (view table hid own)) n) NoRow [] (Seen (at (view table hid own) n)) (omega arith) e .1))
+  serve-ten Count e = absurd (omega arith)
+  serve-ten Distinct e =
+      let a : Answer = Listed (length (kept d (view table hid own))) in
+      let long : Bool = ltb 320 (length (view table hid own)) in
+      absurd (omega (
+        arith,
+        skipped 10 long LongView [] a (omega arith)
+            (skipped 10 (ltb places (length (view table hid own))) ShortList ((long gives LongView) ∷ []) a (omega arith) e .1) .1,
+      ))
+
+  pub ten-serve : (c : Call) → properCall d c ≡ true → 8 ≤ length own → length own < 64 → full ≡ true → numberOf (serve d table full places hid own c) ≡ 10
+  unfolding serve properCall judged
+  ten-serve (Delete t) p lo hi f = absurd (false≢true p)
+  ten-serve (Insert set) p lo hi f = rw (p, lt-leb 64 (length own) hi, le-leb 8 (length own) lo, f)
+  ten-serve Reset p lo hi f = absurd (false≢true p)
+  ten-serve (Look n) p lo hi f = absurd (false≢true p)
+  ten-serve Count p lo hi f = absurd (false≢true p)
+  ten-serve Distinct p lo hi f = absurd (false≢true p)
+
+  -- a desk with fewer than eight rows has its next proper insert accepted
+  pub serve-next : (c : Call) → properCall d c ≡ true → length own < 8 → accepted (serve d table full places hid own c) ≡ true
+  unfolding serve properCall judged accepted
+  serve-next (Delete t) p h = absurd (false≢true p)
+  serve-next (Insert set) p h = rw (p, lt-leb 64 (length own) (omega arith), lt-leb 8 (length own) h)
+  serve-next Reset p h = absurd (false≢true p)
+  serve-next (Look n) p h = absurd (false≢true p)
+  serve-next Count p h = absurd (false≢true p)
+  serve-next Distinct p h = absurd (false≢true p)
+
+  -- the other desks enter through `full` alone, and only by refusal 10
+  pub serve-but-ten : (c : Call) → numberOf (serve d table full places hid own c) ≢ 10 → serve d table full places hid own c ≡ serve d table false places hid own c
+  unfolding serve judged
+  serve-but-ten (Delete (Table n)) ne = refl
+  serve-but-ten (Delete (Own n)) ne = refl
+  serve-but-ten (Insert set) ne = go (not (within d set)) (leb 64 (length own)) (leb 8 (length own)) full ne
+    where
+      go : (a b c f : Bool) → let tests : Bool → Answer = λ x. judged ((a gives BadSet) ∷ (b gives Full) ∷ ((c && x) gives NoRoom) ∷ []) Done in
+          numberOf (tests f) ≢ 10 → tests f ≡ tests false
+      go true b c f ne = refl
+      go false true c f ne = refl
+      go false false true true ne = absurd (ne refl)
+      go false false true false ne = refl
+      go false false false f ne = refl
+  serve-but-ten Reset ne = refl
+  serve-but-ten (Look n) ne = refl
+  serve-but-ten Count ne = refl
+  serve-but-ten Distinct ne = refl
