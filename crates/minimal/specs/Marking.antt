@@ -1,10 +1,11 @@
 -- What the contracts say while the minimal rows of a view are marked: which values are rows of their own, how the other rows are chained,
 -- and which rows are judged. The marks they come to are `firsts` (document 01, 'Which rows DISTINCT keeps').
-use Prim.Native.Nat.{ℕ, zero, _+_, _≤_, _<_}
+use Prim.Native.Nat.{ℕ, zero, _+_, _/_, _%_, _^_, _≤_, _<_}
 use mathlib.Core.Path.{_≡_}
 use mathlib.Core.Logic.{_≢_, _⊎_}
 use mathlib.Core.Bool.{Bool, true, false}
 use mathlib.Core.List.{List}
+use lib.Bits.{bitXor}
 use lib.Count.{ones}
 use lib.ListN.{length}
 use Rattle.sets.specs.Sets.{has, single, subset}
@@ -62,6 +63,17 @@ NoneWithin mins found x = (m : ℕ) → m < found → subset (at mins m) x ≡ f
 pub record Scanned (r : Bool) (mins : List ℕ) (found x : ℕ) : Type 0 where
   pub none : r ≡ true → NoneWithin mins found x
   pub some : r ≡ false → SomeWithin mins found x
+
+-- a number below 64 that goes by the row alone
+unfoldable pub tagOf : ℕ → ℕ
+tagOf x =
+    let half = bitXor x (x / 2 ^ 32) in
+    let quarter = bitXor half (half / 2 ^ 16) in
+    bitXor quarter (quarter / 2 ^ 8) % 64
+
+-- r of the rows found so far are to be tested: all, or those before `base` where x's tag is not among the tags of the others
+abbrev pub ToTest : ℕ → ℕ → ℕ → ℕ → ℕ → Type 0
+ToTest base found tags x r = (r ≡ found) ⊎ ((r ≡ base) × (has tags (tagOf x) ≡ false))
 
 -- The first `found` rows of mins are judged rows, no more than are marked, and each judged clear row has one of them for a subset.
 pub record Sieve (rows : List ℕ) (keep : List Bool) (mins : List ℕ) (found k i : ℕ) : Type 0 where

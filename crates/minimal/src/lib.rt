@@ -6,7 +6,7 @@ ghost use mathlib.Core.Logic.{_≢_};
 ghost use Prim.Native.Nat.{zero, _+_, _≤_, _<_};
 ghost use lib.ListN.{length};
 ghost use Rattle.theory.specs.Kept.{firsts};
-ghost use Rattle.minimal.specs.Marking.{NoMarks, NoneEmpty, IsSingle, Singles, Marks, Scanned, Past, Chains, Spans, Sieve};
+ghost use Rattle.minimal.specs.Marking.{NoMarks, NoneEmpty, IsSingle, Singles, Marks, Scanned, tagOf, ToTest, Past, Chains, Spans, Sieve};
 
 // The row has one value.
 fn is_single(x: u64) -> bool
@@ -63,6 +63,30 @@ fn none_within(mins: &[u64], found: usize, x: u64) -> bool
     true
 }
 
+// A number below 64 that goes by the row alone: rows with different tags are different.
+fn tag(x: u64) -> usize
+    ensures { λ r. ⌜ r ≡ tagOf x ⌝ }
+{
+    let half = x ^ (x >> 32);
+    let quarter = half ^ (half >> 16);
+    ((quarter ^ (quarter >> 8)) % 64) as usize
+}
+
+// How many of the minimal rows found so far have to be tested against x. Those from `base` on have as many values as x: one of them is a subset
+// only where it is equal, and where x's tag is not among theirs none is. A few are tested sooner than their tags are looked at.
+fn to_test(base: usize, found: usize, tags: u64, x: u64) -> usize
+    requires { ⌜ base ≤ found ⌝ }
+    ensures { λ r. ⌜ ToTest base found tags x r ⌝ }
+{
+    if found - base < 8 {
+        return found;
+    }
+    if sets::has(tags, tag(x)) {
+        return found;
+    }
+    base
+}
+
 // No chained row has fewer than `low` values or more than `high`.
 struct Span {
     low: usize,
@@ -111,15 +135,18 @@ fn level(
     requires { ⌜ Sieve (now rows) (now keep) (now mins) found k 0 ⌝ }
     ensures { λ r. ⌜ Sieve (now (rows .entry)) (now (keep .exit)) (now (mins .exit)) r (k + 1) 0 ⌝ }
 {
+    let base = found;
+    let mut tags: u64 = 0;
     let mut place = head[k] as usize;
     while place < rows.len() {
         let i = place;
         place = next[i] as usize;
         let x = rows[i];
-        if none_within(mins, found, x) {
+        if none_within(mins, to_test(base, found, tags, x), x) {
             keep[i] = true;
             mins[found] = x;
             found += 1;
+            tags = sets::with(tags, tag(x));
         }
     }
     found

@@ -1,0 +1,14 @@
+-- `minimal::tag` meets its contract. Assumes nothing.
+use mathlib.Core.Path.{refl}
+use Rattle.minimal.specs.Marking.{tagOf}
+use Rattle.minimal.proofs.tag.Statement.{statement}
+use Rattle.minimal.proofs.tag.Tie as tie
+use Rattle.minimal.proofs.tag.Reads as reads
+use Rattle.minimal.proofs.tag.Lts as lts
+
+returns : tie.Need-returns
+unfolding tagOf
+returns c = refl
+
+pub tag-spec : {M : Type 1} → statement M
+tag-spec = tie.close (tie.spec returns)
