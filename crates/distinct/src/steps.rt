@@ -31,7 +31,7 @@ fn pair_up(
     seats
 }
 
-// The other rows are tried in view order: one is kept where it gets a seat.
+// The other rows are tried in view order: one is kept where it gets a seat, and one that holds a free value always does.
 fn try_rest(
     view: &[u64],
     keep: &mut [bool],
@@ -49,10 +49,16 @@ fn try_rest(
         let i = next;
         next += 1;
         if !keep[i] {
-            let used = seats.used;
-            seats = pairing::seats::seat(view[i], seats, rows, columns, mates);
-            if used < seats.used {
+            let row = view[i];
+            if row & seats.free != 0 {
+                seats = pairing::seats::sit_near(row, seats, rows, columns, mates);
                 keep[i] = true;
+            } else {
+                let used = seats.used;
+                seats = pairing::seats::seat(row, seats, rows, columns, mates);
+                if used < seats.used {
+                    keep[i] = true;
+                }
             }
         }
     }

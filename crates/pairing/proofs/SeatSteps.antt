@@ -12,9 +12,9 @@ use lib.Count.{trailingZeros}
 use lib.ListN.{length, set, take, drop, length-set, length-append, length-drop}
 use lib.Seq.{take-suc-set, take-set-le, length-take-le, take-at}
 use Rattle.sets.specs.Sets.{has, single}
-use Rattle.sets.proofs.Bools.{and-left, and-right}
+use Rattle.sets.proofs.Bools.{and-left, and-right, not-both}
 use Rattle.sets.proofs.Extremes.{lowest-has}
-use Rattle.sets.proofs.Values.{has-and}
+use Rattle.sets.proofs.Values.{has-and, has-empty}
 use Rattle.sets.proofs.ValuesBelow.{some-value}
 use Rattle.theory.specs.Pairings.{at}
 use Rattle.theory.proofs.Places.{mate?}
@@ -155,3 +155,7 @@ near-value row free v word is some = go (lowest-has 64 (bitAnd row free) (omega 
     go (h, t) =
         let both : (has row v && has free v) ≡ true = sym (has-and row free v) ∙ ap (has (bitAnd row free)) is ∙ t in
         (omega arith, and-right (has row v) (has free v) both, and-left (has row v) (has free v) both)
+
+-- and then there is a free value
+pub near-free : (free v : ℕ) → has free v ≡ true → free ≢ zero
+near-free free v h z = not-both h (ap (λ (x : ℕ). has x v) z ∙ has-empty v)

@@ -1,6 +1,8 @@
 // The rows that have mates sit on 64 seats, in the order in which they got one: a row that has a mate once has one for good, though not always the same.
 // A row more is put in where that makes the pairing larger.
 ghost use mathlib.Core.Path.{_≡_};
+ghost use mathlib.Core.Logic.{_≢_};
+ghost use lib.Bits.{bitAnd};
 ghost use Prim.Native.Nat.{_<_, _≤_};
 ghost use lib.ListN.{length};
 ghost use Rattle.sets.specs.Sets.{has};
@@ -129,25 +131,38 @@ fn seek(row: u64, s: Seats, rows: &mut [u64], columns: &mut [u64], mates: &mut [
     }
 }
 
+// The row holds a value that is free, and takes it.
+pub fn sit_near(
+    row: u64,
+    s: Seats,
+    rows: &mut [u64],
+    columns: &mut [u64],
+    mates: &mut [usize],
+) -> Seats
+    requires { ⌜ Sitting s (now rows) (now columns) (now mates) × Below (s .d) row × (bitAnd row (s .free) ≢ 0) ⌝ }
+    ensures { λ r. ⌜ OfSeat row s (now (rows .entry)) r (now (rows .exit)) (now (columns .exit)) (now (mates .exit)) × (s .used < r .used) ⌝ }
+{
+    let used = s.used;
+    let v = sets::lowest(row & s.free);
+    rows[used] = row;
+    mates[used] = v + 1;
+    taken(s, v)
+}
+
 // The row gets a seat where that makes the pairing larger: then one seat more is used.
 pub fn seat(row: u64, s: Seats, rows: &mut [u64], columns: &mut [u64], mates: &mut [usize]) -> Seats
     requires { ⌜ Sitting s (now rows) (now columns) (now mates) × Below (s .d) row ⌝ }
     ensures { λ r. ⌜ OfSeat row s (now (rows .entry)) r (now (rows .exit)) (now (columns .exit)) (now (mates .exit)) ⌝ }
 {
-    let used = s.used;
     let free = s.free;
+    if row & free != 0 {
+        return sit_near(row, s, rows, columns, mates);
+    }
     if free == 0 {
         return s;
     }
     if sets::subset(row, s.dead) {
         return s;
     }
-    let near = row & free;
-    if near == 0 {
-        return seek(row, s, rows, columns, mates);
-    }
-    let v = sets::lowest(near);
-    rows[used] = row;
-    mates[used] = v + 1;
-    taken(s, v)
+    seek(row, s, rows, columns, mates)
 }

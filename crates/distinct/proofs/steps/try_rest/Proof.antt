@@ -12,6 +12,10 @@ use Rattle.distinct.specs.Steps.{Pairs}
 use Rattle.distinct.proofs.RowSteps.{pairs-kept, pairs-passed, tried-more}
 use Rattle.distinct.proofs.steps.try_rest.Statement.{statement}
 use Rattle.distinct.proofs.steps.try_rest.Tie as tie
+use Rattle.distinct.proofs.steps.try_rest.Reads as reads
+use Rattle.distinct.proofs.steps.try_rest.Lts as lts
+use Rattle.pairing.proofs.seats.seat.Reads as seat-reads
+use Rattle.pairing.proofs.seats.sit_near.Reads as sit-near-reads
 
 abbrev Inv-loop : tie.InvT-loop
 Inv-loop view keep₀ rows₀ columns₀ mates₀ seats₀ next₀ keep rows columns mates seats next = (next ≤ length view) × Pairs view keep seats rows columns mates × (keep ≡ tries 64 view next 0 keep₀)
@@ -28,23 +32,17 @@ add-next c = search needs
 slice-read-if1 : tie.Need-slice-read-if1 Inv-loop μ-loop
 slice-read-if1 c = omega (arith, c .before .before .loop .inv .1 .stands .fits)
 
-mul-seat : tie.Need-mul-seat Inv-loop μ-loop
-mul-seat c = search needs
+mul-row : tie.Need-mul-row Inv-loop μ-loop
+mul-row c = search needs
 
-shared-slice-read-seat : tie.Need-shared-slice-read-seat Inv-loop μ-loop
-shared-slice-read-seat c = search needs
+shared-slice-read-row : tie.Need-shared-slice-read-row Inv-loop μ-loop
+shared-slice-read-row c = search needs
 
-seat-requires : tie.Need-seat-requires Inv-loop μ-loop
-seat-requires c κs =
-    let e = c .before .before .before .before .before .before .before .before .before .before .before .before .before in
-    let l = c .before .before .before .before .before .before .before .loop in
-    (l .inv .1 .sits, l .inv .1 .small (l .next))
+sit-near-requires : tie.Need-sit-near-requires Inv-loop μ-loop
+sit-near-requires c κs = let l = c .before .before .before .before .before .before .before .before .before .loop in (l .inv .1 .sits, l .inv .1 .small (l .next), c .before .before .before .if2 .taken)
 
 slice-write-keep : tie.Need-slice-write-keep Inv-loop μ-loop
-slice-write-keep c =
-    let e = c .before .before .before .before .before .before .before .before .before .before .before .before .before .before .before .before .before .before .before .before .before .before in
-    let l = c .before .before .before .before .before .before .before .before .before .before .before .before .before .before .before .before .loop in
-    omega (arith, c .before .before .before .before .before .before .before .before .before .before .before .before .before .before .before .loop-test .taken, l .inv .1 .stands .fits)
+slice-write-keep c = omega (arith, c .before .before .before .before .before .before .before .before .before .before .before .before .before .before .before .loop-test .taken, c .before .before .before .before .before .before .before .before .before .before .before .before .before .before .before .before .loop .inv .1 .stands .fits)
 
 loop-less : tie.Need-loop-less Inv-loop μ-loop
 loop-less c = search needs
@@ -53,28 +51,46 @@ loop-again : tie.Need-loop-again Inv-loop μ-loop
 loop-again c =
     let e = c .before .before .before .before .before .before .before .before .before .before .before .before .before .before .before .before .before .before .before .before .before .before in
     let l = c .before .before .before .before .before .before .before .before .before .before .before .before .before .before .before .before .loop in
-    let o = c .before .before .before .before .before .before .before .before .seat in
+    let o = c .before .before .before .before .before .before .sit-near in
     let h = c .before .before .before .before .before .before .before .before .before .before .before .before .before .before .before .loop-test .taken in
-    let k = pairs-kept (e .args .view .now) (l .keep) (l .seats) (l .rows) (l .columns) (l .mates) (l .inv .1) (l .next) h (not-true _ (c .before .before .before .before .before .before .before .before .before .before .before .before .before .if1 .taken)) (o .result) (o .last .1 .1 .0) (o .last .1 .1 .1 .0) (o .last .1 .1 .1 .1 .0) (o .ensures) (c .if2 .taken) in
-    (omega arith, k .0, tried-more (e .args .view .now) (e .args .keep .now) (l .keep) (l .next) (set (l .keep) (l .next) true) (l .inv .2) (k .1))
+    let k = pairs-kept (e .args .view .now) (l .keep) (l .seats) (l .rows) (l .columns) (l .mates) (l .inv .1) (l .next) h (not-true _ (c .before .before .before .before .before .before .before .before .before .before .before .before .before .if1 .taken)) (o .result) (o .last .1 .1 .0) (o .last .1 .1 .1 .0) (o .last .1 .1 .1 .1 .0) (o .ensures .0) (o .ensures .1) in
+    (omega (arith, h), k .0, tried-more (e .args .view .now) (e .args .keep .now) (l .keep) (l .next) (set (l .keep) (l .next) true) (l .inv .2) (k .1))
+
+seat-requires : tie.Need-seat-requires Inv-loop μ-loop
+seat-requires c κs = let l = c .before .before .before .before .before .before .before .before .before .loop in (l .inv .1 .sits, l .inv .1 .small (l .next))
+
+slice-write-keep-2 : tie.Need-slice-write-keep-2 Inv-loop μ-loop
+slice-write-keep-2 c = omega (arith, c .before .before .before .before .before .before .before .before .before .before .before .before .before .before .before .before .before .loop-test .taken, c .before .before .before .before .before .before .before .before .before .before .before .before .before .before .before .before .before .before .loop .inv .1 .stands .fits)
 
 loop-less-2 : tie.Need-loop-less-2 Inv-loop μ-loop
 loop-less-2 c = search needs
 
 loop-again-2 : tie.Need-loop-again-2 Inv-loop μ-loop
 loop-again-2 c =
-    let e = c .before .before .before .before .before .before .before .before .before .before .before .before .before .before .before .before .before .before .before .before .before .before in
-    let l = c .before .before .before .before .before .before .before .before .before .before .before .before .before .before .before .before .loop in
+    let e = c .before .before .before .before .before .before .before .before .before .before .before .before .before .before .before .before .before .before .before .before .before .before .before .before in
+    let l = c .before .before .before .before .before .before .before .before .before .before .before .before .before .before .before .before .before .before .loop in
     let o = c .before .before .before .before .before .before .before .before .seat in
-    let h = c .before .before .before .before .before .before .before .before .before .before .before .before .before .before .before .loop-test .taken in
-    let k = pairs-passed (e .args .view .now) (l .keep) (l .seats) (l .rows) (l .columns) (l .mates) (l .inv .1) (l .next) h (not-true _ (c .before .before .before .before .before .before .before .before .before .before .before .before .before .if1 .taken)) (o .result) (o .last .1 .1 .0) (o .last .1 .1 .1 .0) (o .last .1 .1 .1 .1 .0) (o .ensures) (c .if2 .left) in
-    (omega arith, k .0, tried-more (e .args .view .now) (e .args .keep .now) (l .keep) (l .next) (l .keep) (l .inv .2) (k .1))
+    let h = c .before .before .before .before .before .before .before .before .before .before .before .before .before .before .before .before .before .loop-test .taken in
+    let k = pairs-kept (e .args .view .now) (l .keep) (l .seats) (l .rows) (l .columns) (l .mates) (l .inv .1) (l .next) h (not-true _ (c .before .before .before .before .before .before .before .before .before .before .before .before .before .before .before .if1 .taken)) (o .result) (o .last .1 .1 .0) (o .last .1 .1 .1 .0) (o .last .1 .1 .1 .1 .0) (o .ensures) (c .if3 .taken) in
+    (omega (arith, h), k .0, tried-more (e .args .view .now) (e .args .keep .now) (l .keep) (l .next) (set (l .keep) (l .next) true) (l .inv .2) (k .1))
 
 loop-less-3 : tie.Need-loop-less-3 Inv-loop μ-loop
 loop-less-3 c = search needs
 
 loop-again-3 : tie.Need-loop-again-3 Inv-loop μ-loop
 loop-again-3 c =
+    let e = c .before .before .before .before .before .before .before .before .before .before .before .before .before .before .before .before .before .before .before .before .before .before .before .before in
+    let l = c .before .before .before .before .before .before .before .before .before .before .before .before .before .before .before .before .before .before .loop in
+    let o = c .before .before .before .before .before .before .before .before .seat in
+    let h = c .before .before .before .before .before .before .before .before .before .before .before .before .before .before .before .before .before .loop-test .taken in
+    let k = pairs-passed (e .args .view .now) (l .keep) (l .seats) (l .rows) (l .columns) (l .mates) (l .inv .1) (l .next) h (not-true _ (c .before .before .before .before .before .before .before .before .before .before .before .before .before .before .before .if1 .taken)) (o .result) (o .last .1 .1 .0) (o .last .1 .1 .1 .0) (o .last .1 .1 .1 .1 .0) (o .ensures) (c .if3 .left) in
+    (omega (arith, h), k .0, tried-more (e .args .view .now) (e .args .keep .now) (l .keep) (l .next) (l .keep) (l .inv .2) (k .1))
+
+loop-less-4 : tie.Need-loop-less-4 Inv-loop μ-loop
+loop-less-4 c = search needs
+
+loop-again-4 : tie.Need-loop-again-4 Inv-loop μ-loop
+loop-again-4 c =
     let e = c .before .before .before .before .before .before .before .before .before in
     let l = c .before .before .before .loop in
     (omega arith, l .inv .1, tried-more (e .args .view .now) (e .args .keep .now) (l .keep) (l .next) (l .keep) (l .inv .2) (try-marked 64 (e .args .view .now) (l .keep) (l .next) (not-false _ (c .if1 .left))))
@@ -119,16 +135,20 @@ try-rest-spec =
     loop-holds
     add-next
     slice-read-if1
-    mul-seat
-    shared-slice-read-seat
-    seat-requires
+    mul-row
+    shared-slice-read-row
+    sit-near-requires
     slice-write-keep
     loop-less
     loop-again
+    seat-requires
+    slice-write-keep-2
     loop-less-2
     loop-again-2
     loop-less-3
     loop-again-3
+    loop-less-4
+    loop-again-4
     same-length
     same-length-2
     same-length-3

@@ -1,7 +1,6 @@
 -- `search` meets its contract. The invariant: what each value that is no longer left has heard. Assumes nothing.
 use borrow.Author.Needs.{needs}
-use mathlib.Core.Path.{sym, ap, subst, _∙_}
-use native.Mathlib.Omega.{arith}
+use mathlib.Core.Path.{ap, _∙_}
 use lib.ListN.{length}
 use Rattle.pairing.proofs.SearchRounds.{Round, round-start, round-end, round-less, round-asks, round-found, round-again}
 use Rattle.pairing.proofs.search.search.Statement.{statement}

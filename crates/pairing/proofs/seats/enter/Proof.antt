@@ -1,10 +1,6 @@
 -- `enter` meets its contract. The invariant: the row stands in the columns of its values, but for those that are left. Assumes nothing.
 use borrow.Author.Needs.{needs}
-use Prim.Native.Nat.{ℕ}
-use mathlib.Core.Path.{sym, subst}
 use native.Mathlib.Omega.{arith}
-use lib.ListN.{set}
-use Rattle.sets.specs.Sets.{single, minus}
 use Rattle.pairing.proofs.SeatColumns.{Entering, enter-start, enter-end, enter-small, enter-less, enter-next}
 use Rattle.pairing.proofs.seats.enter.Statement.{statement}
 use Rattle.pairing.proofs.seats.enter.Tie as tie
