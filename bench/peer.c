@@ -58,8 +58,9 @@ struct pairing {
     uint64_t mate[MOST_VALUES]; /* the row of each value that is not free; its set will do, its position is not needed */
 };
 
-/* The row takes a free value, or one whose present row finds another. */
-static bool find_value(struct pairing *p, uint64_t row)
+/* The row takes a free value, or one whose present row finds another. It begins with a cache line, and so the short
+   loops of what follows it fall the same way in every program: one that crosses a line is a third slower. */
+__attribute__((aligned(64))) static bool find_value(struct pairing *p, uint64_t row)
 {
     uint64_t near = row & p->free;
     if (near != 0) {
