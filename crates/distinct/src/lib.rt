@@ -6,8 +6,8 @@ ghost use Rattle.theory.specs.Kept.{kept};
 ghost use Rattle.distinct.specs.Asked.{Askable, askable, answered, listed};
 use sets::Found;
 
-pub mod steps; // steps.rt: the two steps, on marks
-pub mod list; // list.rt: the positions of marks into a lent list
+mod steps; // steps.rt: the two steps, on marks
+mod list; // list.rt: the positions of marks into a lent list
 
 // DISTINCT for a caller that has checked the view: the kept positions go to the front of the list, which keeps its later places. Answers their number.
 pub fn distinct(d: usize, view: &[u64], list: &mut [usize]) -> usize

@@ -1,6 +1,6 @@
 -- `UptoLaws`: laws of what is said of the numbers below n. `Surveying`: what a pass over the places has learnt so far. `Markings`: hide marks by words.
 -- `SoundParts`: what soundness says, part by part. `Checking`: soundness, test by test, as the code goes.
--- `ClosingUp`: rows taken out of a list. `Closing`: places close up in one list. `OwnAfter`: what a desk holds after a change. `HidesAfter`: what it hides. `SoundAfter`: soundness is kept.
+-- `ClosingUp`: rows taken out of a list. `ClosingPass`: the pass that closes places up. `OwnAfter`: what a desk holds after a change. `HidesAfter`: what it hides. `SoundAfter`: soundness is kept.
 pub mod UptoLaws
 pub mod Surveying
 pub mod Markings
@@ -8,6 +8,6 @@ pub mod SoundParts
 pub mod Checking
 pub mod ClosingUp
 pub mod OwnAfter
-pub mod Closing
+pub mod ClosingPass
 pub mod HidesAfter
 pub mod SoundAfter

@@ -17,8 +17,7 @@ use Rattle.theory.specs.Pairings.{at}
 use Rattle.sheet.specs.Upto.{allTo}
 use Rattle.sheet.specs.Sheets.{hides, markedRight}
 use Rattle.sheet.specs.Surveys.{marksOf, MayHide}
-use Rattle.sheet.proofs.UptoLaws.{all-intro, top-or-below}
-use Rattle.sheet.proofs.Surveying.{all-fails}
+use Rattle.sheet.proofs.UptoLaws.{all-fails, all-intro, top-or-below}
 
 -- ---- the rows that a word may have
 

@@ -10,7 +10,7 @@ use native.Mathlib.Omega.{arith}
 use lib.Dec.{eqb, ltb}
 use lib.ListN.{length, set, replicate, length-set, length-replicate, getD-replicate}
 use borrow.Author.Tests.{lt-ltb, le-ltb, eq-eqb, ne-eqb}
-use Rattle.sets.proofs.Bools.{and-both, or-left, or-right, true-or-false, not-both}
+use Rattle.sets.proofs.Bools.{and-both, or-left, or-right}
 use Rattle.theory.specs.Pairings.{at}
 use Rattle.sets.specs.Sets.{within}
 use Rattle.theory.proofs.Places.{at-same, at-other}
@@ -18,14 +18,7 @@ use Rattle.sheet.specs.declared.Sheet.{Sheet}
 use Rattle.sheet.specs.Upto.{countTo, allTo}
 use Rattle.sheet.specs.Sheets.{owns, owned, empty, placed}
 use Rattle.sheet.specs.Surveys.{Surveyed}
-use Rattle.sheet.proofs.UptoLaws.{all-at, all-intro, top-or-below, count-yes, count-no, count-le}
-
--- one number fails, and so not all pass
-pub all-fails : (f : ℕ → Bool) (n i : ℕ) → i < n → f i ≡ false → allTo f n ≡ false
-all-fails f n i h e = elim (true-or-false (allTo f n)) [
-  | inl t ↦ absurd (not-both (all-at f n t i h) e)
-  | inr q ↦ q
-]
+use Rattle.sheet.proofs.UptoLaws.{all-fails, all-intro, top-or-below, count-yes, count-no, count-le}
 
 -- ---- the places that are not used
 

@@ -9,7 +9,7 @@ use native.Mathlib.Decide.{ℕ-discrete}
 use native.Mathlib.Omega.{arith}
 use lib.ListN.{length, length-append}
 use Rattle.theory.specs.Pairings.{at}
-use Rattle.sets.proofs.Bools.{and-left, and-right, and-both}
+use Rattle.sets.proofs.Bools.{and-left, and-right, and-both, true-or-false, not-both}
 use Rattle.sheet.specs.Upto.{countTo, allTo, sumTo, those}
 
 -- ---- one number more
@@ -76,6 +76,13 @@ pub all-intro : (f : ℕ → Bool) (n : ℕ) → ((i : ℕ) → i < n → f i �
 unfolding allTo
 all-intro f zero p = refl
 all-intro f (suc n) p = and-both (allTo f n) (f n) (all-intro f n (λ i h. p i (omega arith))) (p n (omega arith))
+
+-- one number fails, and so not all pass
+pub all-fails : (f : ℕ → Bool) (n i : ℕ) → i < n → f i ≡ false → allTo f n ≡ false
+all-fails f n i h e = elim (true-or-false (allTo f n)) [
+  | inl t ↦ absurd (not-both (all-at f n t i h) e)
+  | inr q ↦ q
+]
 
 -- ---- how many
 

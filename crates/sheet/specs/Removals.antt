@@ -6,7 +6,7 @@ use Rattle.sheet.specs.Upto.{countTo, those}
 use Rattle.sheet.specs.Changes.{padded, stays}
 
 -- of the first n places, those that stay have closed up: `left` of them
-pub record Closed (k from upto : ℕ) (sets owners : List ℕ) (n left : ℕ) (sets′ owners′ : List ℕ) : Type 0 where
+pub record ClosedUp (k from upto : ℕ) (sets owners : List ℕ) (n left : ℕ) (sets′ owners′ : List ℕ) : Type 0 where
   pub count : left ≡ countTo (stays owners k from upto) n
   pub rows : sets′ ≡ padded (those (stays owners k from upto) sets n)
   pub desks : owners′ ≡ padded (those (stays owners k from upto) owners n)

@@ -7,7 +7,7 @@ ghost use lib.ListN.{replicate};
 ghost use Rattle.sheet.specs.Upto.{allTo};
 ghost use Rattle.sheet.specs.Sheets.{empty};
 ghost use Rattle.sheet.specs.Surveys.{placesOf, Surveyed};
-ghost use Rattle.sheet.specs.Removals.{Closed};
+ghost use Rattle.sheet.specs.Removals.{ClosedUp};
 use crate::Sheet;
 
 // The places from `used` on have set 0 and owner 0.
@@ -102,7 +102,7 @@ pub fn close_up<'a>(
     whose: &mut [usize; Sheet::PLACES],
 ) -> usize
     requires { ⌜ (used ≤ 512) × (now rest ≡ replicate 512 0) × (now whose ≡ replicate 512 0) ⌝ }
-    ensures { λ r. ⌜ Closed desk from upto (now (sets .entry)) (now (owners .entry)) used r (now (rest .exit)) (now (whose .exit)) ⌝ }
+    ensures { λ r. ⌜ ClosedUp desk from upto (now (sets .entry)) (now (owners .entry)) used r (now (rest .exit)) (now (whose .exit)) ⌝ }
 {
     let mut seen: usize = 0;
     let mut left: usize = 0;

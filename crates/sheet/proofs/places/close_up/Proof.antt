@@ -5,8 +5,8 @@ use native.Mathlib.Numerals.{unary-clauses}
 use native.Mathlib.Omega.{arith}
 use borrow.Author.Tests.{not-true, not-false}
 use borrow.Author.Needs.{needs}
-use Rattle.sheet.specs.Removals.{Closed}
-use Rattle.sheet.proofs.Closing.{Passing, passing-start, passing-few, passing-go, passing-stay}
+use Rattle.sheet.specs.Removals.{ClosedUp}
+use Rattle.sheet.proofs.ClosingPass.{Passing, passing-start, passing-few, passing-go, passing-stay}
 use Rattle.sheet.proofs.places.close_up.Statement.{statement}
 use Rattle.sheet.proofs.places.close_up.Tie as tie
 use Rattle.sheet.proofs.places.close_up.Reads as reads
@@ -84,7 +84,7 @@ loop-again-2 c =
 returns : tie.Need-returns Inv-loop μ-loop
 returns c =
     let l = c .before .loop in
-    subst (λ (n : ℕ). Closed (c .before .before .args .desk) (c .before .before .args .from) (c .before .before .args .upto) (c .before .before .args .sets .now) (c .before .before .args .owners .now) n (l .left) (l .rest) (l .whose)) (omega (arith, l .inv .0, c .loop-test .left)) (l .inv .1 .closed)
+    subst (λ (n : ℕ). ClosedUp (c .before .before .args .desk) (c .before .before .args .from) (c .before .before .args .upto) (c .before .before .args .sets .now) (c .before .before .args .owners .now) n (l .left) (l .rest) (l .whose)) (omega (arith, l .inv .0, c .loop-test .left)) (l .inv .1 .closed)
 
 pub close-up-spec : {M : Type 1} → statement M
 close-up-spec =

@@ -11,7 +11,7 @@ use borrow.Author.Needs.{needs}
 use Rattle.sets.proofs.Bools.{and-both}
 use Rattle.theory.specs.Pairings.{at}
 use Rattle.sheet.specs.Upto.{allTo}
-use Rattle.sheet.proofs.Surveying.{all-fails}
+use Rattle.sheet.proofs.UptoLaws.{all-fails}
 use Rattle.sheet.proofs.shares.none_over.Statement.{statement}
 use Rattle.sheet.proofs.shares.none_over.Tie as tie
 use Rattle.sheet.proofs.shares.none_over.Reads as reads

@@ -11,7 +11,7 @@ use Rattle.theory.specs.Pairings.{at}
 use Rattle.sheet.specs.Upto.{countTo, those}
 use Rattle.sheet.specs.Sheets.{owns}
 use Rattle.sheet.specs.Changes.{padded, stays}
-use Rattle.sheet.specs.Removals.{Closed}
+use Rattle.sheet.specs.Removals.{ClosedUp}
 use Rattle.sheet.proofs.UptoLaws.{count-yes, count-no, count-le, those-yes, those-no, length-those}
 
 -- one more is put down
@@ -27,7 +27,7 @@ pad-more l n x e h =
 -- the first `next` places are passed, and `seen` of them are the desk's
 pub record Passing (k from upto : ℕ) (sets owners : List ℕ) (seen left next : ℕ) (sets′ owners′ : List ℕ) : Type 0 where
   pub seen-is : seen ≡ countTo (owns owners k) next
-  pub closed : Closed k from upto sets owners next left sets′ owners′
+  pub closed : ClosedUp k from upto sets owners next left sets′ owners′
 
 pub passing-start : (k from upto : ℕ) (sets owners sets′ owners′ : List ℕ) → sets′ ≡ replicate 512 zero → owners′ ≡ replicate 512 zero → Passing k from upto sets owners zero zero zero sets′ owners′
 unfolding countTo those padded
