@@ -95,6 +95,19 @@ unfolding countTo
 count-le f zero = omega arith
 count-le f (suc n) = count-step (f n) (countTo f n) n (count-le f n)
 
+-- more numbers have no fewer that pass
+pub count-more : (f : ℕ → Bool) (m n : ℕ) → m ≤ n → countTo f m ≤ countTo f n
+unfolding countTo
+count-more f m zero h = let none : m ≡ zero = omega arith in rw none (omega arith)
+count-more f m (suc n) h = elim (top-or-below (suc n) m (omega arith)) [
+  | inl e ↦ rw e (omega arith)
+  | inr l ↦ go (f n) (countTo f m) (countTo f n) (count-more f m n (omega arith))
+]
+  where
+    go : (b : Bool) (a c : ℕ) → a ≤ c → a ≤ cond b (suc c) c
+    go true a c l = omega arith
+    go false a c l = l
+
 length-step : (b : Bool) (l : List ℕ) (x m : ℕ) → length l ≡ m → length (l ++ cond b (x ∷ []) []) ≡ cond b (suc m) m
 length-step true l x m e = simp length-append (omega arith)
 length-step false l x m e = simp length-append (omega arith)

@@ -34,6 +34,8 @@ impl Sheet {
     pub const DESKS: usize = 32;
     // The rows that a table may have.
     pub const ROWS: usize = 256;
+    // The rows that a view may have.
+    pub const VIEW: usize = Sheet::ROWS + Sheet::HELD;
     // The words of one desk's marks, and of all desks'.
     pub const WORDS: usize = Sheet::ROWS / Sheet::VALUES;
 

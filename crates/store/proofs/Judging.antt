@@ -64,7 +64,7 @@ pub record Good (d : ℕ) (table : List ℕ) (desks : ℕ) : Type 0 where
   pub some-desk : 1 ≤ desks
   pub few-desks : desks ≤ 32
 
-none-bad : (f : Found) → badCase f .applies ≡ false → f ≡ Nothing
+pub none-bad : (f : Found) → badCase f .applies ≡ false → f ≡ Nothing
 unfolding badCase
 none-bad Nothing e = refl
 none-bad (At i) e = absurd (false≢true (sym e))

@@ -1,6 +1,6 @@
 -- `Judging`: what an accepted begin and an accepted call have. `SheetRuns`: every sheet of a run is sound. `DeskRuns`: a desk on the sheet is as its history says.
 -- `Told`: what a desk is told. `ClassKeeps`: our store meets demand 3. `OnlyStore`: no other store does. `AsIfAlone`: a desk is told what it would be told alone.
--- `WrongStores`, `PlacesAlone`: the wrong stores that demand 3 shuts out. `TwelveNever`: refusal 12 is never given.
+-- `WrongStores`, `PlacesAlone`: the wrong stores that demand 3 shuts out. `TwelveNever`: refusal 12 is never given. `Gathering`: how a view is gathered.
 pub mod Judging
 pub mod SheetRuns
 pub mod DeskRuns
@@ -11,3 +11,7 @@ pub mod AsIfAlone
 pub mod WrongStores
 pub mod PlacesAlone
 pub mod TwelveNever
+pub mod Gathering
+pub mod ViewRows
+pub mod Trusting
+pub mod Serving

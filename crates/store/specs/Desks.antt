@@ -8,6 +8,7 @@ use Rattle.sets.specs.Sets.{within}
 use Rattle.theory.specs.Pairings.{at}
 use Rattle.theory.specs.Kept.{kept}
 use Rattle.sheet.specs.Upto.{those}
+use Rattle.store.specs.declared.Target.{Target}
 use Rattle.store.specs.declared.Target.the-variants.{Table, Own}
 use Rattle.store.specs.declared.Call.{Call}
 use Rattle.store.specs.declared.Call.the-variants.{Delete, Insert, Reset, Look, Count, Distinct}
@@ -20,19 +21,42 @@ use Rattle.store.specs.Answers.{judged, _gives_}
 unfoldable pub view : List ℕ → (ℕ → Bool) → List ℕ → List ℕ
 view table hid own = those (λ i. not (hid i)) table (length table) ++ own
 
--- Refusals 6 to 12, lowest first, and the answers. `full`: used plus owed is 512. `places`: those of the lent list.
+-- ---- refusals 6 to 12, lowest first, and the answers
+
+-- a delete of table row n: 6 and 7
+abbrev pub deletesTable : ℕ → (ℕ → Bool) → ℕ → Answer
+deletesTable rows hid n = judged ((leb rows n gives NoRow) ∷ (hid n gives HiddenAlready) ∷ []) Done
+
+-- a delete of own row n: 6
+abbrev pub deletesOwn : ℕ → ℕ → Answer
+deletesOwn held n = judged ((leb held n gives NoRow) ∷ []) Done
+
+abbrev pub deletes : ℕ → (ℕ → Bool) → ℕ → Target → Answer
+deletes rows hid held (Table n) = deletesTable rows hid n
+deletes rows hid held (Own n) = deletesOwn held n
+
+-- an insert: 8, 9 and 10. `full`: used plus owed is 512
+abbrev pub inserts : ℕ → Bool → ℕ → ℕ → Answer
+inserts d full held set =
+    judged ((not (within d set) gives BadSet) ∷ (leb 64 held gives Full) ∷ ((leb 8 held && full) gives NoRoom) ∷ []) Done
+
+-- a look at position n of the view: 6
+abbrev pub looks : List ℕ → ℕ → Answer
+looks rows n = judged ((leb (length rows) n gives NoRow) ∷ []) (Seen (at rows n))
+
+-- DISTINCT over the view: 11 and 12. `places`: those of the lent list
+abbrev pub lists : ℕ → ℕ → List ℕ → Answer
+lists d places rows =
+    judged ((ltb places (length rows) gives ShortList) ∷ (ltb 320 (length rows) gives LongView) ∷ []) (Listed (length (kept d rows)))
+
 module _ (d : ℕ) (table : List ℕ) (full : Bool) (places : ℕ) (hid : ℕ → Bool) (own : List ℕ) where
   unfoldable pub serve : Call → Answer
-  serve (Delete (Table n)) = judged ((leb (length table) n gives NoRow) ∷ (hid n gives HiddenAlready) ∷ []) Done
-  serve (Delete (Own n)) = judged ((leb (length own) n gives NoRow) ∷ []) Done
-  serve (Insert set) =
-      judged ((not (within d set) gives BadSet) ∷ (leb 64 (length own) gives Full) ∷ ((leb 8 (length own) && full) gives NoRoom) ∷ []) Done
+  serve (Delete t) = deletes (length table) hid (length own) t
+  serve (Insert set) = inserts d full (length own) set
   serve Reset = Done
-  serve (Look n) = judged ((leb (length (view table hid own)) n gives NoRow) ∷ []) (Seen (at (view table hid own) n))
+  serve (Look n) = looks (view table hid own) n
   serve Count = Counted (length (view table hid own)) (length own)
-  serve Distinct =
-      judged ((ltb places (length (view table hid own)) gives ShortList) ∷ (ltb 320 (length (view table hid own)) gives LongView) ∷ [])
-      (Listed (length (kept d (view table hid own))))
+  serve Distinct = lists d places (view table hid own)
 
 -- 'the first n places of the lent list get the kept positions, later places keep what they had'; other calls write nothing
 unfoldable pub listAfter : ℕ → List ℕ → Answer → List ℕ → List ℕ

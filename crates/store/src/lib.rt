@@ -1,4 +1,10 @@
-// What a desk may ask, and what it is answered.
+// The calls of a lesson: begin, and what a desk may ask; what is answered, and the sheet that is handed back.
+
+use sheet::Sheet;
+
+mod table; // table.rt: refusals 1 and 2
+mod view; // view.rt: what a desk sees
+mod desk; // desk.rt: refusals 6 to 12, and the answers
 
 // What a delete is aimed at: a table row by its number, or an own row by its place among the desk's own.
 pub enum Target {
@@ -40,4 +46,10 @@ pub enum Answer {
     Counted(usize, usize),
     Listed(usize),
     Refused(Refusal),
+}
+
+// What every call hands back.
+pub struct Reply {
+    pub answer: Answer,
+    pub sheet: Sheet,
 }

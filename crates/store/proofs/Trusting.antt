@@ -1,0 +1,75 @@
+-- What follows once table, sheet and desk are right. Assumes nothing.
+use Prim.Native.Nat.{ℕ, zero, _+_, _-_, _≤_, _<_}
+use mathlib.Core.Path.{_≡_, sym, ap, _∙_}
+use mathlib.Core.Bool.{_||_}
+use mathlib.Core.List.{List, [], _∷_}
+use native.Mathlib.Omega.{arith}
+use lib.Dec.{eqb, ltb}
+use lib.ListN.{length}
+use borrow.Author.Tests.{ltb-false}
+use Rattle.theory.specs.Pairings.{at}
+use Rattle.sets.specs.Tables.{badRow}
+use Rattle.sets.proofs.BadRows.{bad-row-none}
+use Rattle.distinct.specs.Steps.{InColumn}
+use Rattle.sheet.specs.declared.Sheet.{Sheet}
+use Rattle.sheet.specs.Upto.{sumTo}
+use Rattle.sheet.specs.Sheets.{own, owns, held, hides, owed}
+use Rattle.sheet.proofs.UptoLaws.{sum-ext}
+use Rattle.sheet.proofs.OwnAfter.{length-own}
+use Rattle.sheet.proofs.SoundParts.{sound-parts}
+use Rattle.store.specs.declared.Refusal.the-variants.{TooLarge}
+use Rattle.store.specs.declared.Answer.the-variants.{Done}
+use Rattle.store.specs.Desks.{view}
+use Rattle.store.specs.Calls.{badCase, tableCases}
+use Rattle.store.specs.Serving.{Trusted}
+use Rattle.store.proofs.Judging.{passed, or-no, none-bad}
+use Rattle.store.proofs.ViewRows.{within-those, within-view}
+
+-- the limits that the code leans on
+pub record Limits (d : ℕ) (table : List ℕ) (s : Sheet) (counts : List ℕ) (k : ℕ) : Type 0 where
+  pub desk : k < 32
+  pub desks : s .desks ≤ 32
+  pub table-rows : length table ≤ 256
+  pub values : d ≤ 64
+  pub used : s .used ≤ 512
+  pub promise : s .used + owed s ≤ 512
+  pub share : held s k ≤ 64
+  pub mine : at counts k ≡ length (own s k)
+  pub owes : sumTo (λ j. 8 - at counts j) (s .desks) ≡ owed s
+
+module _ (d : ℕ) (table : List ℕ) (s : Sheet) (counts : List ℕ) (k : ℕ) (T : Trusted d table s counts k) where
+  pub limits : Limits d table s counts k
+  unfolding tableCases
+  limits =
+      let S = sound-parts s (T .sheet-right) in
+      let there = T .desk-there in
+      let large = passed (eqb d zero || ltb 64 d || ltb 256 (length table)) TooLarge (badCase (badRow d table) ∷ []) Done (T .table-right) .0 in
+      let rows = or-no (eqb d zero || ltb 64 d) (ltb 256 (length table)) large in
+      let values = or-no (eqb d zero) (ltb 64 d) (rows .0) in
+      let few = S .few-desks in
+      record {
+        desk = omega arith;
+        desks = few;
+        table-rows = ltb-false 256 (length table) (rows .1);
+        values = ltb-false 64 d (values .1);
+        used = S .places;
+        promise = S .promise;
+        share = S .share k there;
+        mine = T .counted k (omega arith) ∙ sym (length-own s k);
+        owes = sum-ext (λ j. 8 - at counts j) (λ j. 8 - held s j) (s .desks) (λ j h. ap (λ (n : ℕ). 8 - n) (T .counted j (omega arith)));
+      }
+
+  -- every row of the desk's view is one of the column
+  pub in-column : s .d ≡ d → InColumn d (view table (hides (s .marks) k) (own s k))
+  unfolding tableCases
+  in-column same =
+      let S = sound-parts s (T .sheet-right) in
+      let large = passed (eqb d zero || ltb 64 d || ltb 256 (length table)) TooLarge (badCase (badRow d table) ∷ []) Done (T .table-right) in
+      let bad = passed (badCase (badRow d table) .applies) (badCase (badRow d table) .refusal) [] Done (large .1) .0 in
+      record {
+        column = limits .values;
+        rows-within =
+            within-view d table (hides (s .marks) k) (own s k)
+            (bad-row-none d table (none-bad (badRow d table) bad))
+            (rw (sym same) (within-those (s .d) (owns (s .owners) k) (s .sets) (s .used) (S .row)));
+      }

@@ -1,0 +1,27 @@
+-- What the code of a desk's call may trust once refusals 1 to 5 are out, and what it then owes.
+use Prim.Native.Nat.{ℕ, _<_}
+use mathlib.Core.Path.{_≡_}
+use mathlib.Core.Bool.{true}
+use mathlib.Core.List.{List}
+use lib.ListN.{length}
+use Rattle.theory.specs.Pairings.{at}
+use Rattle.sheet.specs.declared.Sheet.{Sheet}
+use Rattle.sheet.specs.Sheets.{own, held, hides, sound}
+use Rattle.store.specs.declared.Call.{Call}
+use Rattle.store.specs.declared.Answer.{Answer}
+use Rattle.store.specs.declared.Answer.the-variants.{Done}
+use Rattle.store.specs.Answers.{judged, accepted}
+use Rattle.store.specs.Desks.{view, serve, listAfter}
+use Rattle.store.specs.Calls.{tableCases, crowded}
+
+-- table, sheet and desk are right, and counts has how many rows each desk holds
+pub record Trusted (d : ℕ) (table : List ℕ) (s : Sheet) (counts : List ℕ) (k : ℕ) : Type 0 where
+  pub table-right : accepted (judged (tableCases d table) Done) ≡ true
+  pub sheet-right : sound s ≡ true
+  pub desk-there : k < s .desks
+  pub counted : (j : ℕ) → j < 32 → at counts j ≡ held s j
+
+-- the answer, and the lent list
+pub record Served (d : ℕ) (table : List ℕ) (s : Sheet) (k : ℕ) (c : Call) (old : List ℕ) (r : Answer) (list : List ℕ) : Type 0 where
+  pub answer-is : r ≡ serve d table (crowded s) (length old) (hides (s .marks) k) (own s k) c
+  pub list-is : list ≡ listAfter d (view table (hides (s .marks) k) (own s k)) r old

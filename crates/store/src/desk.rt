@@ -1,0 +1,140 @@
+// What a desk is answered once table, sheet and desk are right: refusals 6 to 12, and the answers.
+ghost use mathlib.Core.Path.{_≡_};
+ghost use Prim.Native.Nat.{_<_, _≤_};
+ghost use lib.ListN.{length};
+ghost use Rattle.distinct.specs.Steps.{InColumn};
+ghost use Rattle.sheet.specs.Sheets.{hides};
+ghost use Rattle.sheet.specs.Surveys.{sheetOf};
+ghost use Rattle.store.specs.Desks.{deletesTable, deletesOwn, deletes, inserts, looks, lists, listAfter};
+ghost use Rattle.store.specs.Serving.{Trusted, Served};
+use crate::Answer;
+use crate::Call;
+use crate::Refusal;
+use crate::Target;
+use crate::view;
+use sheet::Sheet;
+
+// A table row is hidden, of `rows` that the table has.
+fn delete_table(rows: usize, marks: &[u64; Sheet::MARKS], desk: usize, n: usize) -> Answer
+    requires { ⌜ (desk < 32) × (rows ≤ 256) ⌝ }
+    ensures { λ r. ⌜ r ≡ deletesTable rows (hides (now (marks .entry)) desk) n ⌝ }
+{
+    if rows <= n {
+        return Answer::Refused(Refusal::NoRow);
+    }
+    if sheet::marks::hidden(marks, desk, n) {
+        return Answer::Refused(Refusal::HiddenAlready);
+    }
+    Answer::Done
+}
+
+// An own row goes, of those that the desk has.
+fn delete_own(held: usize, n: usize) -> Answer
+    ensures { λ r. ⌜ r ≡ deletesOwn held n ⌝ }
+{
+    if held <= n {
+        return Answer::Refused(Refusal::NoRow);
+    }
+    Answer::Done
+}
+
+// A row is put in; `full` where every free place is owed.
+fn insert(d: usize, full: bool, held: usize, set: u64) -> Answer
+    requires { ⌜ d ≤ 64 ⌝ }
+    ensures { λ r. ⌜ r ≡ inserts d full held set ⌝ }
+{
+    if !sets::within(set, d) {
+        return Answer::Refused(Refusal::BadSet);
+    }
+    if Sheet::HELD <= held {
+        return Answer::Refused(Refusal::Full);
+    }
+    if held < Sheet::PROMISED {
+        return Answer::Done;
+    }
+    if full {
+        return Answer::Refused(Refusal::NoRoom);
+    }
+    Answer::Done
+}
+
+// A row of the view is shown.
+fn look(rows: &[u64], n: usize) -> Answer
+    ensures { λ r. ⌜ r ≡ looks (now (rows .entry)) n ⌝ }
+{
+    if rows.len() <= n {
+        return Answer::Refused(Refusal::NoRow);
+    }
+    Answer::Seen(rows[n])
+}
+
+// The kept rows of the view are listed.
+fn list_kept(d: usize, rows: &[u64], list: &mut [usize]) -> Answer
+    requires { ⌜ (length (now rows) ≤ 320) × InColumn d (now rows) ⌝ }
+    ensures { λ r. ⌜ (r ≡ lists d (length (now (list .entry))) (now (rows .entry))) × (now (list .exit) ≡ listAfter d (now (rows .entry)) r (now (list .entry))) ⌝ }
+{
+    if list.len() < rows.len() {
+        return Answer::Refused(Refusal::ShortList);
+    }
+    let n = distinct::distinct(d, rows, list);
+    Answer::Listed(n)
+}
+
+fn delete(
+    rows: usize,
+    marks: &[u64; Sheet::MARKS],
+    desk: usize,
+    held: usize,
+    target: Target,
+) -> Answer
+    requires { ⌜ (desk < 32) × (rows ≤ 256) ⌝ }
+    ensures { λ r. ⌜ r ≡ deletes rows (hides (now (marks .entry)) desk) held target ⌝ }
+{
+    match target {
+        Target::Table(n) => delete_table(rows, marks, desk, n),
+        Target::Own(n) => delete_own(held, n),
+    }
+}
+
+// What the desk is told: the answer, and for DISTINCT the kept positions in its list.
+pub fn serve<'a>(
+    table: &[u64],
+    d: usize,
+    desks: usize,
+    used: usize,
+    marks: &'a [u64; Sheet::MARKS],
+    sets: &'a [u64; Sheet::PLACES],
+    owners: &'a [usize; Sheet::PLACES],
+    counts: &[usize; Sheet::DESKS],
+    desk: usize,
+    call: Call,
+    list: &mut [usize],
+) -> Answer
+    requires { ⌜ Trusted d (now table) (sheetOf d (length (now table)) desks used (now marks) (now sets) (now owners)) (now counts) desk ⌝ }
+    ensures { λ r. ⌜ Served d (now (table .entry)) (sheetOf d (length (now (table .entry))) desks used (now (marks .entry)) (now (sets .entry)) (now (owners .entry))) desk call (now (list .entry)) r (now (list .exit)) ⌝ }
+{
+    let held = counts[desk];
+    match call {
+        Call::Delete(target) => delete(table.len(), marks, desk, held, target),
+        Call::Insert(set) => {
+            let owed = sheet::shares::owed(desks, counts);
+            insert(d, used + owed == Sheet::PLACES, held, set)
+        }
+        Call::Reset => Answer::Done,
+        Call::Look(n) => {
+            let mut rows = [0u64; Sheet::VIEW];
+            let many = view::gather(table, marks, desk, used, sets, owners, &mut rows);
+            look(&rows[..many], n)
+        }
+        Call::Count => {
+            let mut rows = [0u64; Sheet::VIEW];
+            let many = view::gather(table, marks, desk, used, sets, owners, &mut rows);
+            Answer::Counted(many, held)
+        }
+        Call::Distinct => {
+            let mut rows = [0u64; Sheet::VIEW];
+            let many = view::gather(table, marks, desk, used, sets, owners, &mut rows);
+            list_kept(d, &rows[..many], list)
+        }
+    }
+}

@@ -1,0 +1,69 @@
+// What a desk sees: the table rows that it does not hide, then its own.
+ghost use mathlib.Core.Path.{_≡_};
+ghost use mathlib.Core.Bool.{not};
+ghost use Prim.Native.Nat.{_<_, _≤_, _+_};
+ghost use lib.ListN.{length};
+ghost use Rattle.sheet.specs.Upto.{countTo, those};
+ghost use Rattle.sheet.specs.Sheets.{owns, hides};
+ghost use Rattle.store.specs.Views.{Filled, Viewed};
+use sheet::Sheet;
+
+// The table rows that the desk does not hide go to the front of the rows. Answers how many.
+fn put_table(table: &[u64], marks: &[u64; Sheet::MARKS], desk: usize, rows: &mut [u64]) -> usize
+    requires { ⌜ (desk < 32) × (length (now table) ≤ 256) × (length (now rows) ≡ 320) ⌝ }
+    ensures { λ r. ⌜ Filled (λ i. not (hides (now (marks .entry)) desk i)) (now (table .entry)) (length (now (table .entry))) 0 (now (rows .entry)) r (now (rows .exit)) ⌝ }
+{
+    let mut n: usize = 0;
+    let mut next: usize = 0;
+    while next < table.len() {
+        let i = next;
+        next += 1;
+        if !sheet::marks::hidden(marks, desk, i) {
+            rows[n] = table[i];
+            n += 1;
+        }
+    }
+    n
+}
+
+// The desk's own rows go behind the first `start` rows. Answers how many rows there are then.
+fn put_own<'a>(
+    desk: usize,
+    used: usize,
+    sets: &'a [u64; Sheet::PLACES],
+    owners: &'a [usize; Sheet::PLACES],
+    start: usize,
+    rows: &mut [u64],
+) -> usize
+    requires { ⌜ (used ≤ 512) × (length (now rows) ≡ 320) × (start + countTo (owns (now owners) desk) used ≤ 320) ⌝ }
+    ensures { λ r. ⌜ Filled (owns (now (owners .entry)) desk) (now (sets .entry)) used start (now (rows .entry)) r (now (rows .exit)) ⌝ }
+{
+    let mut n = start;
+    let mut next: usize = 0;
+    while next < used {
+        let i = next;
+        next += 1;
+        if owners[i] == desk {
+            rows[n] = sets[i];
+            n += 1;
+        }
+    }
+    n
+}
+
+// The desk's view goes to the front of the rows. Answers how many rows it has.
+pub fn gather<'a>(
+    table: &[u64],
+    marks: &'a [u64; Sheet::MARKS],
+    desk: usize,
+    used: usize,
+    sets: &'a [u64; Sheet::PLACES],
+    owners: &'a [usize; Sheet::PLACES],
+    rows: &mut [u64],
+) -> usize
+    requires { ⌜ (desk < 32) × (length (now table) ≤ 256) × (used ≤ 512) × (countTo (owns (now owners) desk) used ≤ 64) × (length (now rows) ≡ 320) ⌝ }
+    ensures { λ r. ⌜ Viewed (now (table .entry)) (hides (now (marks .entry)) desk) (those (owns (now (owners .entry)) desk) (now (sets .entry)) used) r (now (rows .exit)) ⌝ }
+{
+    let seen = put_table(table, marks, desk, rows);
+    put_own(desk, used, sets, owners, seen, rows)
+}
