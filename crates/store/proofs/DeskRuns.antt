@@ -27,8 +27,8 @@ use Rattle.store.specs.declared.Call.the-variants.{Delete, Insert, Reset
 use Rattle.store.specs.Answers.{accepted}
 use Rattle.store.specs.Calls.{begunSheet, crowded, answered, changed, sheetAfter}
 use Rattle.store.specs.Promise.{Turn, hiddenIn, ownIn, member, history, heldBy, usedBy, owedBy, sheetOn, classStore}
-use Rattle.store.proofs.Judging.{Good, parts-good, Allowed}
-use Rattle.store.proofs.SheetRuns.{Reached, reached, call-has, has-room}
+use Rattle.store.proofs.Judging.{Good, parts-good, Allowed, has-room}
+use Rattle.store.proofs.SheetRuns.{Reached, reached, call-has}
 
 -- the sheet has of desk k what history h says
 pub record Agrees (s : Sheet) (k : ℕ) (h : List Call) : Type 0 where
@@ -55,7 +55,7 @@ module _ {d : ℕ} {table : List ℕ} {desks : ℕ} (good : Good d table desks) 
 
   module _ {s : Sheet} (r : Reached d table desks s) (k : ℕ) (hk : k < desks) where
     place : (set : ℕ) → Allowed d (length table) (crowded s) (own s k) (Insert set) → s .used < 512
-    place set a = room s k (r .stays-sound) (omega (arith, r .same-desks)) (has-room good r k (a .2))
+    place set a = room s k (r .stays-sound) (omega (arith, r .same-desks)) (has-room s (r .stays-sound) k (a .2))
 
     narrow : {n : ℕ} → n < length table → n < 256
     narrow l = omega (arith, good .small)

@@ -1,7 +1,7 @@
 -- What is known once no refusal applies: of an accepted begin, and of an accepted call. Assumes nothing.
-use Prim.Native.Nat.{ℕ, zero, _≤_, _<_}
+use Prim.Native.Nat.{ℕ, zero, _+_, _≤_, _<_}
 use mathlib.Core.Path.{_≡_, refl, sym, _∙_}
-use mathlib.Core.Logic.{_≢_}
+use mathlib.Core.Logic.{_≢_, _⊎_, inl, inr}
 use mathlib.Core.Bool.{Bool, true, false, not, _&&_, false≢true, _||_}
 use mathlib.Core.List.{List, [], _∷_}
 use native.Mathlib.Omega.{arith}
@@ -12,6 +12,11 @@ use Rattle.sets.specs.declared.Found.{Found}
 use Rattle.sets.specs.declared.Found.the-variants.{At, Nothing}
 use Rattle.sets.specs.Sets.{within}
 use Rattle.sets.specs.Tables.{badRow}
+use Rattle.sets.proofs.Bools.{true-or-false}
+use Rattle.sheet.specs.declared.Sheet.{Sheet}
+use Rattle.sheet.specs.Sheets.{own, held, owed, sound}
+use Rattle.sheet.proofs.OwnAfter.{length-own}
+use Rattle.sheet.proofs.SoundParts.{sound-parts}
 use Rattle.store.specs.declared.Target.the-variants.{Table, Own}
 use Rattle.store.specs.declared.Call.{Call}
 use Rattle.store.specs.declared.Call.the-variants.{Delete, Insert, Reset, Look, Count, Distinct}
@@ -21,7 +26,7 @@ use Rattle.store.specs.declared.Answer.{Answer}
 use Rattle.store.specs.declared.Answer.the-variants.{Done, Refused}
 use Rattle.store.specs.Answers.{Case, _gives_, judged, accepted, number, numberOf}
 use Rattle.store.specs.Desks.{serve}
-use Rattle.store.specs.Calls.{badCase, tableCases, begunAnswer}
+use Rattle.store.specs.Calls.{badCase, tableCases, begunAnswer, crowded}
 
 -- where the answer accepts, the first case does not apply
 pub passed : (b : Bool) (r : Refusal) (cs : List Case) (a : Answer) → accepted (judged ((b gives r) ∷ cs) a) ≡ true → (b ≡ false) × (accepted (judged cs a) ≡ true)
@@ -135,3 +140,13 @@ allowed d table full places hid own Reset t = tt
 allowed d table full places hid own (Look n) t = tt
 allowed d table full places hid own Count t = tt
 allowed d table full places hid own Distinct t = tt
+
+-- an accepted insert finds a place that is free, or promised to its desk
+pub has-room : (s : Sheet) → sound s ≡ true → (k : ℕ) → (crowded s ≡ true → length (own s k) < 8) → (held s k < 8) ⊎ (s .used + owed s < 512)
+unfolding crowded
+has-room s right k few = elim (true-or-false (crowded s)) [
+  | inl e ↦ inl (omega (arith, few e, length-own s k))
+  | inr e ↦
+      (let ne : s .used + owed s ≡ 512 → ⊥ = eqb-false (s .used + owed s) 512 e in
+      inr (omega (arith, sound-parts s right .promise)))
+]

@@ -15,3 +15,4 @@ pub mod Gathering
 pub mod ViewRows
 pub mod Trusting
 pub mod Serving
+pub mod Replying

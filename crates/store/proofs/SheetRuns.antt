@@ -1,16 +1,14 @@
 -- Every sheet of a run is sound, whole, and keeps the d, T and number of desks that it began with; where begin is refused, its sheet isn't sound. Assumes nothing.
-use Prim.Native.Nat.{ℕ, zero, suc, _+_, _<_}
+use Prim.Native.Nat.{ℕ, zero, suc, _<_}
 use mathlib.Core.Path.{_≡_, refl, sym, ap, _∙_}
-use mathlib.Core.Logic.{_⊎_, inl, inr}
 use mathlib.Core.Bool.{Bool, true, false, cond}
 use mathlib.Core.List.{List, [], _∷_}
 use native.Mathlib.Omega.{arith}
 use lib.Dec.{leb}
 use lib.ListN.{length}
-use borrow.Author.Tests.{le-ltb, leb-false, eq-eqb, ne-eqb, eqb-false}
-use Rattle.sets.proofs.Bools.{true-or-false}
+use borrow.Author.Tests.{le-ltb, leb-false, eq-eqb, ne-eqb}
 use Rattle.sheet.specs.declared.Sheet.{Sheet}
-use Rattle.sheet.specs.Sheets.{own, held, owed, hides, Whole, sound}
+use Rattle.sheet.specs.Sheets.{own, hides, Whole, sound}
 use Rattle.sheet.specs.Changes.{freshSheet}
 use Rattle.sheet.proofs.OwnAfter.{length-own, whole-adding, whole-without}
 use Rattle.sheet.proofs.HidesAfter.{whole-hiding, whole-showing}
@@ -24,7 +22,7 @@ use Rattle.store.specs.Answers.{_gives_, judged, accepted}
 use Rattle.store.specs.Desks.{serve}
 use Rattle.store.specs.Calls.{badCase, tableCases, sheetCases, begunAnswer, begunSheet, crowded, answered, changed, sheetAfter}
 use Rattle.store.specs.Promise.{Turn, sheetOn}
-use Rattle.store.proofs.Judging.{Good, good-parts, parts-good, passed, Allowed, allowed}
+use Rattle.store.proofs.Judging.{Good, good-parts, parts-good, passed, Allowed, allowed, has-room}
 
 -- a sheet of a class on this table
 pub record Reached (d : ℕ) (table : List ℕ) (desks : ℕ) (s : Sheet) : Type 0 where
@@ -80,16 +78,6 @@ module _ {d : ℕ} {table : List ℕ} {desks : ℕ} (good : Good d table desks) 
       let p = passed (leb desks k) NoDesk [] a (sym (ap accepted (answered-here r k c places)) ∙ t) in
       (leb-false desks k (p .0), allowed d table (crowded s) places (hides (s .marks) k) (own s k) c (p .1))
 
-  -- an accepted insert finds a place that is free, or promised to its desk
-  pub has-room : {s : Sheet} → Reached d table desks s → (k : ℕ) → (crowded s ≡ true → length (own s k) < 8) → (held s k < 8) ⊎ (s .used + owed s < 512)
-  unfolding crowded
-  has-room {s} r k few = elim (true-or-false (crowded s)) [
-    | inl e ↦ inl (omega (arith, few e, length-own s k))
-    | inr e ↦
-        (let ne : s .used + owed s ≡ 512 → ⊥ = eqb-false (s .used + owed s) 512 e in
-        inr (omega (arith, sound-parts s (r .stays-sound) .promise)))
-  ]
-
   after : {s : Sheet} → Reached d table desks s → (k : ℕ) (c : Call) → k < desks → Allowed d (length table) (crowded s) (own s k) c → Reached d table desks (changed s k c)
   unfolding changed
   after {s} r k (Delete (Table n)) h a =
@@ -113,7 +101,7 @@ module _ {d : ℕ} {table : List ℕ} {desks : ℕ} (good : Good d table desks) 
         whole = whole-adding k set (r .whole);
         stays-sound =
             sound-adding k set (r .whole) (r .stays-sound) (omega (arith, r .same-desks)) (rw (r .same-d) (a .0)) (omega (arith, a .1, length-own s k))
-            (has-room r k (a .2));
+            (has-room s (r .stays-sound) k (a .2));
         same-d = r .same-d;
         same-rows = r .same-rows;
         same-desks = r .same-desks;

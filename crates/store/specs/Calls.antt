@@ -16,6 +16,7 @@ use Rattle.store.specs.declared.Call.the-variants.{Delete, Insert, Reset
 use Rattle.store.specs.declared.Refusal.the-variants.{TooLarge, BadRow, Unsound, OtherTable, NoDesk, BadDesks}
 use Rattle.store.specs.declared.Answer.{Answer}
 use Rattle.store.specs.declared.Answer.the-variants.{Done}
+use Rattle.store.specs.declared.Reply.{Reply}
 use Rattle.store.specs.Answers.{Case, _gives_, judged, accepted}
 use Rattle.store.specs.Desks.{serve, Told, telling}
 
@@ -38,16 +39,22 @@ begunAnswer d table desks = judged (tableCases d table ++ (((eqb desks zero || l
 unfoldable pub begunSheet : ℕ → List ℕ → ℕ → Sheet
 begunSheet d table desks = cond (accepted (begunAnswer d table desks)) (freshSheet d (length table) desks) (freshSheet zero zero zero)
 
+abbrev pub begun : ℕ → List ℕ → ℕ → Reply
+begun d table desks = record { answer = begunAnswer d table desks; sheet = begunSheet d table desks }
+
 -- ---- desk calls
 
 -- 'used plus owed is 512'
 unfoldable pub crowded : Sheet → Bool
 crowded s = eqb (s .used + owed s) 512
 
+-- refusals 4 and 5: of the table and desk of a call, and the d, T and number of desks of the sheet
+abbrev pub deskCases : ℕ → ℕ → ℕ → ℕ → ℕ → ℕ → List Case
+deskCases d rows sd srows desks k = (not (eqb sd d && eqb srows rows) gives OtherTable) ∷ (leb desks k gives NoDesk) ∷ []
+
 -- refusals 3, 4 and 5
 unfoldable pub sheetCases : ℕ → List ℕ → Sheet → ℕ → List Case
-sheetCases d table s k =
-    (not (sound s) gives Unsound) ∷ (not (eqb (s .d) d && eqb (s .rows) (length table)) gives OtherTable) ∷ (leb (s .desks) k gives NoDesk) ∷ []
+sheetCases d table s k = (not (sound s) gives Unsound) ∷ deskCases d (length table) (s .d) (s .rows) (s .desks) k
 
 -- what desk k is answered
 unfoldable pub answered : ℕ → List ℕ → Sheet → ℕ → Call → ℕ → Answer
@@ -67,6 +74,9 @@ changed s k Distinct = s
 -- 'A refusal .. hands back the sheet it was handed'
 unfoldable pub sheetAfter : ℕ → List ℕ → Sheet → ℕ → Call → ℕ → Sheet
 sheetAfter d table s k c places = cond (accepted (answered d table s k c places)) (changed s k c) s
+
+abbrev pub replied : ℕ → List ℕ → Sheet → ℕ → Call → ℕ → Reply
+replied d table s k c places = record { answer = answered d table s k c places; sheet = sheetAfter d table s k c places }
 
 -- what desk k is told: the answer, and its list
 abbrev pub told : ℕ → List ℕ → Sheet → ℕ → Call → List ℕ → Told

@@ -1,5 +1,5 @@
 -- What the code of a desk's call may trust once refusals 1 to 5 are out, and what it then owes.
-use Prim.Native.Nat.{ℕ, _<_}
+use Prim.Native.Nat.{ℕ, _<_, _≤_}
 use mathlib.Core.Path.{_≡_}
 use mathlib.Core.Bool.{true}
 use mathlib.Core.List.{List}
@@ -7,7 +7,9 @@ use lib.ListN.{length}
 use Rattle.theory.specs.Pairings.{at}
 use Rattle.sheet.specs.declared.Sheet.{Sheet}
 use Rattle.sheet.specs.Sheets.{own, held, hides, sound}
+use Rattle.store.specs.declared.Target.the-variants.{Table, Own}
 use Rattle.store.specs.declared.Call.{Call}
+use Rattle.store.specs.declared.Call.the-variants.{Delete, Insert, Reset, Look, Count, Distinct}
 use Rattle.store.specs.declared.Answer.{Answer}
 use Rattle.store.specs.declared.Answer.the-variants.{Done}
 use Rattle.store.specs.Answers.{judged, accepted}
@@ -25,3 +27,13 @@ pub record Trusted (d : ℕ) (table : List ℕ) (s : Sheet) (counts : List ℕ) 
 pub record Served (d : ℕ) (table : List ℕ) (s : Sheet) (k : ℕ) (c : Call) (old : List ℕ) (r : Answer) (list : List ℕ) : Type 0 where
   pub answer-is : r ≡ serve d table (crowded s) (length old) (hides (s .marks) k) (own s k) c
   pub list-is : list ≡ listAfter d (view table (hides (s .marks) k) (own s k)) r old
+
+-- what the sheet has room for
+abbrev pub Possible : Sheet → ℕ → Call → Type 0
+Possible s k (Delete (Table n)) = (k < 32) × (n < 256)
+Possible s k (Delete (Own n)) = (s .used ≤ 512) × (n < 64)
+Possible s k (Insert set) = s .used < 512
+Possible s k Reset = (s .used ≤ 512) × (k < 32)
+Possible s k (Look n) = Unit {0}
+Possible s k Count = Unit {0}
+Possible s k Distinct = Unit {0}

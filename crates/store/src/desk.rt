@@ -1,10 +1,13 @@
-// What a desk is answered once table, sheet and desk are right: refusals 6 to 12, and the answers.
+// What a desk is answered on a sound sheet: refusals 4 to 12, and the answers.
 ghost use mathlib.Core.Path.{_≡_};
 ghost use Prim.Native.Nat.{_<_, _≤_};
 ghost use lib.ListN.{length};
 ghost use Rattle.distinct.specs.Steps.{InColumn};
 ghost use Rattle.sheet.specs.Sheets.{hides};
 ghost use Rattle.sheet.specs.Surveys.{sheetOf};
+ghost use Rattle.store.specs.declared.Answer.the-variants.{Done};
+ghost use Rattle.store.specs.Answers.{judged};
+ghost use Rattle.store.specs.Calls.{deskCases};
 ghost use Rattle.store.specs.Desks.{deletesTable, deletesOwn, deletes, inserts, looks, lists, listAfter};
 ghost use Rattle.store.specs.Serving.{Trusted, Served};
 use crate::Answer;
@@ -13,6 +16,29 @@ use crate::Refusal;
 use crate::Target;
 use crate::view;
 use sheet::Sheet;
+
+// The table lent is of the d and T that the sheet began with, and the desk is one of its desks: Done, or refusal 4 or 5.
+pub fn known(
+    d: usize,
+    rows: usize,
+    sheetd: usize,
+    sheetrows: usize,
+    desks: usize,
+    desk: usize,
+) -> Answer
+    ensures { λ r. ⌜ r ≡ judged (deskCases d rows sheetd sheetrows desks desk) Done ⌝ }
+{
+    if sheetd != d {
+        return Answer::Refused(Refusal::OtherTable);
+    }
+    if sheetrows != rows {
+        return Answer::Refused(Refusal::OtherTable);
+    }
+    if desks <= desk {
+        return Answer::Refused(Refusal::NoDesk);
+    }
+    Answer::Done
+}
 
 // A table row is hidden, of `rows` that the table has.
 fn delete_table(rows: usize, marks: &[u64; Sheet::MARKS], desk: usize, n: usize) -> Answer

@@ -1,0 +1,205 @@
+-- The refusals in their order, as the code meets them, and what is handed back with each. Assumes nothing.
+use Prim.Native.Nat.{ℕ, zero, _+_, _-_, _<_}
+use mathlib.Core.Path.{_≡_, refl, sym, ap, subst, _∙_}
+use mathlib.Core.Logic.{inl, inr}
+use mathlib.Core.Bool.{Bool, true, false, cond, not, _&&_, _||_, true≢false, false≢true}
+use mathlib.Core.List.{List, [], _∷_, _++_}
+use native.Mathlib.Omega.{arith}
+use lib.Dec.{eqb, leb, ltb}
+use lib.ListN.{length}
+use borrow.Author.Tests.{eqb-true, leb-false, not-false}
+use Rattle.theory.specs.Pairings.{at}
+use Rattle.sets.proofs.Bools.{and-left, and-right}
+use Rattle.sheet.specs.declared.Sheet.{Sheet}
+use Rattle.sheet.specs.Sheets.{own, held, hides, sound}
+use Rattle.sheet.specs.Changes.{freshSheet}
+use Rattle.sheet.specs.Surveys.{sheetOf}
+use Rattle.sheet.proofs.UptoLaws.{sum-part}
+use Rattle.sheet.proofs.OwnAfter.{length-own}
+use Rattle.store.specs.declared.Target.the-variants.{Table, Own}
+use Rattle.store.specs.declared.Call.{Call}
+use Rattle.store.specs.declared.Call.the-variants.{Delete, Insert, Reset, Look, Count, Distinct}
+use Rattle.store.specs.declared.Refusal.the-variants.{Unsound, OtherTable, NoDesk, BadDesks}
+use Rattle.store.specs.declared.Answer.{Answer}
+use Rattle.store.specs.declared.Answer.the-variants.{Done, Seen, Counted, Listed, Refused}
+use Rattle.store.specs.declared.Reply.{Reply}
+use Rattle.store.specs.Answers.{Case, _gives_, judged, accepted}
+use Rattle.store.specs.Desks.{view, serve, listAfter}
+use Rattle.store.specs.Calls.{tableCases, deskCases, sheetCases, crowded, begunAnswer, begunSheet, begun, answered, changed, sheetAfter, replied, told}
+use Rattle.store.specs.Serving.{Trusted, Served, Possible}
+use Rattle.store.proofs.Judging.{passed, Allowed, allowed, has-room}
+use Rattle.store.proofs.Trusting.{Limits, limits}
+
+-- ---- first cases and later ones
+
+-- where one of the first cases applies, the later ones are not looked at
+pub stopped : (cs ds : List Case) (a : Answer) → accepted (judged cs Done) ≡ false → judged (cs ++ ds) a ≡ judged cs Done
+unfolding judged accepted
+stopped [] ds a e = absurd (true≢false e)
+stopped (c ∷ cs) ds a e = go (c .applies) e (stopped cs ds a)
+  where
+    go : (b : Bool) → accepted (cond b (Refused (c .refusal)) (judged cs Done)) ≡ false → (accepted (judged cs Done) ≡ false → judged (cs ++ ds) a ≡ judged cs Done)
+        → cond b (Refused (c .refusal)) (judged (cs ++ ds) a) ≡ cond b (Refused (c .refusal)) (judged cs Done)
+    go true e p = refl
+    go false e p = p e
+
+-- where none does, they decide
+pub went-on : (cs ds : List Case) (a : Answer) → accepted (judged cs Done) ≡ true → judged (cs ++ ds) a ≡ judged ds a
+unfolding judged accepted
+went-on [] ds a e = refl
+went-on (c ∷ cs) ds a e = go (c .applies) e (went-on cs ds a)
+  where
+    go : (b : Bool) → accepted (cond b (Refused (c .refusal)) (judged cs Done)) ≡ true → (accepted (judged cs Done) ≡ true → judged (cs ++ ds) a ≡ judged ds a)
+        → cond b (Refused (c .refusal)) (judged (cs ++ ds) a) ≡ judged ds a
+    go true e p = absurd (false≢true e)
+    go false e p = p e
+
+-- and what is then said is `Done`
+done : (cs : List Case) → accepted (judged cs Done) ≡ true → judged cs Done ≡ Done
+unfolding judged accepted
+done [] e = refl
+done (c ∷ cs) e = go (c .applies) e (done cs)
+  where
+    go : (b : Bool) → accepted (cond b (Refused (c .refusal)) (judged cs Done)) ≡ true → (accepted (judged cs Done) ≡ true → judged cs Done ≡ Done)
+        → cond b (Refused (c .refusal)) (judged cs Done) ≡ Done
+    go true e p = absurd (false≢true e)
+    go false e p = p e
+
+-- ---- begin
+
+module _ (d : ℕ) (table : List ℕ) (desks : ℕ) where
+  pub begun-refused : accepted (judged (tableCases d table) Done) ≡ false
+      → record { answer = judged (tableCases d table) Done; sheet = freshSheet zero zero zero } ≡ begun d table desks
+  unfolding begunAnswer begunSheet
+  begun-refused e = let stop = stopped (tableCases d table) (((eqb desks zero || ltb 32 desks) gives BadDesks) ∷ []) Done e in rw (stop, e) refl
+
+  module _ (right : accepted (judged (tableCases d table) Done) ≡ true) where
+    pub begun-desks : (eqb desks zero || ltb 32 desks) ≡ true → record { answer = Refused BadDesks; sheet = freshSheet zero zero zero } ≡ begun d table desks
+    unfolding begunAnswer begunSheet judged accepted
+    begun-desks e = let on = went-on (tableCases d table) (((eqb desks zero || ltb 32 desks) gives BadDesks) ∷ []) Done right in rw (on, e) refl
+
+    pub begun-right : (eqb desks zero || ltb 32 desks) ≡ false
+        → record { answer = judged (tableCases d table) Done; sheet = freshSheet d (length table) desks } ≡ begun d table desks
+    unfolding begunAnswer begunSheet judged accepted
+    begun-right e =
+        let on = went-on (tableCases d table) (((eqb desks zero || ltb 32 desks) gives BadDesks) ∷ []) Done right in
+        rw (on, e, done (tableCases d table) right) refl
+
+-- ---- a desk's call
+
+-- what the caller has once the call is over
+abbrev pub Outcome : ℕ → List ℕ → Sheet → ℕ → Call → List ℕ → Reply → List ℕ → Type 0
+Outcome d table s k c old r list = (r ≡ replied d table s k c (length old)) × (list ≡ told d table s k c old .list)
+
+silent-refusal : (d : ℕ) (rows list : List ℕ) (a : Answer) → accepted a ≡ false → listAfter d rows a list ≡ list
+unfolding accepted listAfter
+silent-refusal d rows list Done e = absurd (true≢false e)
+silent-refusal d rows list (Seen set) e = absurd (true≢false e)
+silent-refusal d rows list (Counted n held) e = absurd (true≢false e)
+silent-refusal d rows list (Listed n) e = absurd (true≢false e)
+silent-refusal d rows list (Refused r) e = refl
+
+module _ (d : ℕ) (table : List ℕ) (s : Sheet) (k : ℕ) (c : Call) (old : List ℕ) where
+  -- a refusal hands back the sheet and leaves the list
+  refused : (a : Answer) → answered d table s k c (length old) ≡ a → accepted a ≡ false → Outcome d table s k c old (record { answer = a; sheet = s }) old
+  unfolding sheetAfter
+  refused a e n = (rw (e, n) refl, rw e (sym (silent-refusal d (view table (hides (s .marks) k) (own s k)) old a n)))
+
+  -- refusals 1 and 2
+  pub table-refused : accepted (judged (tableCases d table) Done) ≡ false
+      → Outcome d table s k c old (record { answer = judged (tableCases d table) Done; sheet = s }) old
+  unfolding answered
+  table-refused e =
+      refused (judged (tableCases d table) Done)
+      (stopped (tableCases d table) (sheetCases d table s k) (serve d table (crowded s) (length old) (hides (s .marks) k) (own s k) c) e)
+      e
+
+  module _ (right : accepted (judged (tableCases d table) Done) ≡ true) where
+    on : answered d table s k c (length old) ≡ judged (sheetCases d table s k) (serve d table (crowded s) (length old) (hides (s .marks) k) (own s k) c)
+    unfolding answered
+    on = went-on (tableCases d table) (sheetCases d table s k) (serve d table (crowded s) (length old) (hides (s .marks) k) (own s k) c) right
+
+    -- refusal 3
+    pub sheet-refused : sound s ≡ false → Outcome d table s k c old (record { answer = Refused Unsound; sheet = s }) old
+    unfolding sheetCases judged accepted
+    sheet-refused e = refused (Refused Unsound) (on ∙ (rw e refl)) refl
+
+    module _ (whole : sound s ≡ true) where
+      on-desk : answered d table s k c (length old)
+          ≡ judged (deskCases d (length table) (s .d) (s .rows) (s .desks) k) (serve d table (crowded s) (length old) (hides (s .marks) k) (own s k) c)
+      unfolding sheetCases judged
+      on-desk = on ∙ (rw whole refl)
+
+      -- refusals 4 and 5
+      pub desk-refused : accepted (judged (deskCases d (length table) (s .d) (s .rows) (s .desks) k) Done) ≡ false
+          → Outcome d table s k c old (record { answer = judged (deskCases d (length table) (s .d) (s .rows) (s .desks) k) Done; sheet = s }) old
+      desk-refused e =
+          let cases = deskCases d (length table) (s .d) (s .rows) (s .desks) k in
+          refused (judged cases Done) (on-desk ∙ stopped cases [] (serve d table (crowded s) (length old) (hides (s .marks) k) (own s k) c) e) e
+
+      module _ (known : accepted (judged (deskCases d (length table) (s .d) (s .rows) (s .desks) k) Done) ≡ true)
+          (a : Answer) (list : List ℕ) (served : Served d table s k c old a list) where
+        here : answered d table s k c (length old) ≡ a
+        unfolding judged
+        here =
+            on-desk
+            ∙ went-on (deskCases d (length table) (s .d) (s .rows) (s .desks) k) [] (serve d table (crowded s) (length old) (hides (s .marks) k) (own s k) c) known
+            ∙ sym (served .answer-is)
+
+        -- refusals 6 to 12
+        pub call-refused : accepted a ≡ false → Outcome d table s k c old (record { answer = a; sheet = s }) list
+        unfolding sheetAfter
+        call-refused n = (rw (here, n) refl, rw here (served .list-is))
+
+        pub call-accepted : accepted a ≡ true → Outcome d table s k c old (record { answer = a; sheet = changed s k c }) list
+        unfolding sheetAfter
+        call-accepted t = (rw (here, t) refl, rw here (served .list-is))
+
+-- ---- once the desk is known
+
+-- an accepted call changes what the sheet can change
+possible : (d : ℕ) (table : List ℕ) (s : Sheet) (counts : List ℕ) (k : ℕ) → Trusted d table s counts k → (c : Call) (places : ℕ)
+    → accepted (serve d table (crowded s) places (hides (s .marks) k) (own s k) c) ≡ true → Possible s k c
+possible d table s counts k T c places t = go c (allowed d table (crowded s) places (hides (s .marks) k) (own s k) c t)
+  where
+    L : Limits d table s counts k
+    L = limits d table s counts k T
+
+    promised : held s k < 8 → s .used < 512
+    promised h = omega (arith, sum-part (λ j. 8 - held s j) (s .desks) k (T .desk-there), L .promise)
+
+    go : (c : Call) → Allowed d (length table) (crowded s) (own s k) c → Possible s k c
+    go (Delete (Table n)) a = (L .desk, omega (arith, L .table-rows))
+    go (Delete (Own n)) a = (L .used, omega (arith, L .share, length-own s k))
+    go (Insert set) a = elim (has-room s (T .sheet-right) k (a .2)) [
+      | inl h ↦ promised h
+      | inr h ↦ omega arith
+    ]
+    go Reset a = (L .used, L .desk)
+    go (Look n) a = tt
+    go Count a = tt
+    go Distinct a = tt
+
+module _ (d : ℕ) (table : List ℕ) (s : Sheet) (counts : List ℕ) (k : ℕ) (right : accepted (judged (tableCases d table) Done) ≡ true) (whole : sound s ≡ true)
+    (known : accepted (judged (deskCases d (length table) (s .d) (s .rows) (s .desks) k) Done) ≡ true) (counted : (j : ℕ) → j < 32 → at counts j ≡ held s j) where
+  -- the parts of the sheet are read with the d and T of the table lent
+  same-parts : (sheetOf d (length table) (s .desks) (s .used) (s .marks) (s .sets) (s .owners) ≡ s) × (k < s .desks)
+  same-parts =
+      let other = passed (not (eqb (s .d) d && eqb (s .rows) (length table))) OtherTable ((leb (s .desks) k gives NoDesk) ∷ []) Done known in
+      let same = not-false (eqb (s .d) d && eqb (s .rows) (length table)) (other .0) in
+      let d-same = eqb-true (s .d) d (and-left (eqb (s .d) d) (eqb (s .rows) (length table)) same) in
+      let rows-same = eqb-true (s .rows) (length table) (and-right (eqb (s .d) d) (eqb (s .rows) (length table)) same) in
+      (rw (sym d-same, sym rows-same) refl, leb-false (s .desks) k (passed (leb (s .desks) k) NoDesk [] Done (other .1) .0))
+
+  trusted : Trusted d table s counts k
+  trusted = record { table-right = right; sheet-right = whole; desk-there = same-parts .1; counted = counted }
+
+  pub trusted-parts : Trusted d table (sheetOf d (length table) (s .desks) (s .used) (s .marks) (s .sets) (s .owners)) counts k
+  trusted-parts = subst (λ (t : Sheet). Trusted d table t counts k) (sym (same-parts .0)) trusted
+
+  module _ (c : Call) (old : List ℕ) (a : Answer) (list : List ℕ) where
+    pub served-parts : Served d table (sheetOf d (length table) (s .desks) (s .used) (s .marks) (s .sets) (s .owners)) k c old a list → Served d table s k c old a list
+    served-parts = subst (λ (t : Sheet). Served d table t k c old a list) (same-parts .0)
+
+    pub can-change : Served d table s k c old a list → accepted a ≡ true → Possible s k c
+    can-change v t = possible d table s counts k trusted c (length old) (ap accepted (sym (v .answer-is)) ∙ t)
