@@ -2,7 +2,16 @@
 ghost use mathlib.Core.Path.{_≡_};
 ghost use Rattle.distinct.specs.Asked.{answered, listed};
 ghost use Rattle.host.specs.Numbers.{keptNumber};
+ghost use lib.ListN.{length};
+ghost use Rattle.store.specs.Calls.{begun};
+ghost use Rattle.host.specs.Spoken.{askedBy, handedBy, handed, listOf};
 use distinct::Answer;
+use sheet::Sheet;
+use spoken::Asked;
+use spoken::Handed;
+use spoken::Told;
+
+mod spoken; // spoken.rt: calls and answers as plain numbers
 
 // DISTINCT over a view. Answers how many positions stand at the front of the list, or the largest number where the view is refused.
 #[no_mangle]
@@ -13,5 +22,50 @@ pub extern "C" fn foliokettle_distinct(d: usize, view: &[u64], list: &mut [usize
     match answer {
         Answer::Kept(n) => n,
         Answer::Refused => 0xffff_ffff_ffff_ffff,
+    }
+}
+
+// A lesson begins.
+#[no_mangle]
+pub extern "C" fn foliokettle_begin(table: &[u64], d: usize, desks: usize) -> Handed
+    ensures { λ r. ⌜ r ≡ handed (begun d (now (table .entry)) desks) ⌝ }
+{
+    let reply = store::begin(table, d, desks);
+    let answer = reply.answer;
+    let told = spoken::tell(answer);
+    let sheet = reply.sheet;
+    Handed { told, sheet }
+}
+
+// A desk calls, by the kind of the call and its argument. What is no call is refused by the largest number, and nothing changes.
+#[no_mangle]
+pub extern "C" fn foliokettle_call(
+    table: &[u64],
+    d: usize,
+    sheet: Sheet,
+    desk: usize,
+    kind: u64,
+    n: u64,
+    list: &mut [usize],
+) -> Handed
+    ensures { λ r. ⌜ (r ≡ handedBy (askedBy kind n) d (now (table .entry)) sheet desk (length (now (list .entry)))) × (now (list .exit) ≡ listOf (askedBy kind n) d (now (table .entry)) sheet desk (now (list .entry))) ⌝ }
+{
+    let asked = spoken::heard(kind, n);
+    match asked {
+        Asked::One(call) => {
+            let reply = store::desk_call(table, d, sheet, desk, call, list);
+            let answer = reply.answer;
+            let told = spoken::tell(answer);
+            let sheet = reply.sheet;
+            Handed { told, sheet }
+        }
+        Asked::Nothing => {
+            let told = Told {
+                refusal: 0xffff_ffff_ffff_ffff,
+                first: 0,
+                second: 0,
+            };
+            Handed { told, sheet }
+        }
     }
 }

@@ -11,6 +11,7 @@ pub mod sound; // sound.rt: whether a sheet is sound
 
 // `rows` is the table's row count T. Desk k's marks are the four words from 4 k on: table row n is hidden where the word n / 64 of them has the value n % 64.
 // The first `used` places hold the inserted rows, in order of insertion.
+#[repr(C)]
 pub struct Sheet {
     pub d: usize,
     pub rows: usize,

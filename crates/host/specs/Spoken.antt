@@ -1,0 +1,40 @@
+-- Calls and answers as plain numbers, for hosts in other languages.
+use Prim.Native.Nat.{ℕ, zero}
+use mathlib.Core.Bool.{cond}
+use mathlib.Core.List.{List}
+use lib.Dec.{eqb}
+use Rattle.theory.specs.Pairings.{at}
+use Rattle.sheet.specs.declared.Sheet.{Sheet}
+use Rattle.store.specs.declared.Target.the-variants.{Table, Own}
+use Rattle.store.specs.declared.Call.the-variants.{Delete, Insert, Reset, Look, Count, Distinct}
+use Rattle.store.specs.declared.Answer.{Answer}
+use Rattle.store.specs.declared.Reply.{Reply}
+use Rattle.store.specs.Answers.{numberOf, valuesOf}
+use Rattle.store.specs.Calls.{replied, told}
+use Rattle.host.specs.declared.spoken.Told.{Told}
+use Rattle.host.specs.declared.spoken.Handed.{Handed}
+use Rattle.host.specs.declared.spoken.Asked.{Asked}
+use Rattle.host.specs.declared.spoken.Asked.the-variants.{One, Nothing}
+
+-- the call of a kind and its argument: 0 deletes a table row, 1 an own row, 2 inserts, 3 resets, 4 looks, 5 counts, 6 asks DISTINCT
+unfoldable pub askedBy : ℕ → ℕ → Asked
+askedBy kind n =
+    cond (eqb kind 0) (One (Delete (Table n))) (cond (eqb kind 1) (One (Delete (Own n))) (cond (eqb kind 2) (One (Insert n)) (cond (eqb kind 3) (One Reset)
+    (cond (eqb kind 4) (One (Look n)) (cond (eqb kind 5) (One Count) (cond (eqb kind 6) (One Distinct) Nothing))))))
+
+-- an answer by document 01's numbers
+abbrev pub toldOf : Answer → Told
+toldOf a = record { refusal = numberOf a; first = at (valuesOf a) 0; second = at (valuesOf a) 1 }
+
+abbrev pub handed : Reply → Handed
+handed r = record { told = toldOf (r .answer); sheet = r .sheet }
+
+-- what the host is handed back; what is no call is refused by the largest number of 64 bits
+abbrev pub handedBy : Asked → ℕ → List ℕ → Sheet → ℕ → ℕ → Handed
+handedBy (One c) d table s k places = handed (replied d table s k c places)
+handedBy Nothing d table s k places = record { told = record { refusal = 18446744073709551615; first = zero; second = zero }; sheet = s }
+
+-- and its list
+abbrev pub listOf : Asked → ℕ → List ℕ → Sheet → ℕ → List ℕ → List ℕ
+listOf (One c) d table s k list = told d table s k c list .list
+listOf Nothing d table s k list = list
