@@ -1,15 +1,13 @@
 /* Measures the proved DISTINCT against the unproved one of peer.c, in one process and on the same views. First both
    must answer the same, on the measured views and on many drawn ones; then the times of a call are printed. */
 #define _POSIX_C_SOURCE 200809L
+#include "../include/foliokettle.h"
 #include "peer.h"
 
 #include <stdio.h>
 #include <stdlib.h>
 #include <string.h>
 #include <time.h>
-
-/* The library's function, as `rt staticlib host` exports it: see crates/host/src/lib.rt. */
-size_t foliokettle_distinct(size_t d, const uint64_t *view, size_t rows, size_t *list, size_t places);
 
 typedef size_t distinct_function(size_t d, const uint64_t *view, size_t rows, size_t *list, size_t places);
 

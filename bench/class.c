@@ -1,0 +1,197 @@
+/* Measures the proved desk calls against the unproved ones of class_peer.c, in one process, on a full class: 32 desks,
+   512 places, 256 table rows. First both must answer the same and leave the same sheets and lists, over long drawn
+   lessons with damaged sheets among them; then the times of a call are printed, beside C that hands back a sheet as the
+   request asks (a copy and a call in place) and beside C in place alone. */
+#define _POSIX_C_SOURCE 200809L
+#include "class_peer.h"
+
+#include <stdio.h>
+#include <stdlib.h>
+#include <string.h>
+#include <time.h>
+
+enum { ROWS = 256, DESKS = 32, PLACES = 320, LESSONS = 60, TURNS = 4000, ROUNDS = 60 };
+
+static const double ROUND_NS = 2000000;
+
+/* ---- drawing */
+
+static uint64_t drawing = UINT64_C(0x9e3779b97f4a7c15);
+
+static uint64_t draw(void)
+{
+    drawing ^= drawing << 13;
+    drawing ^= drawing >> 7;
+    drawing ^= drawing << 17;
+    return drawing;
+}
+
+static size_t draw_below(size_t end)
+{
+    return (size_t)(draw() % end);
+}
+
+static uint64_t draw_row(size_t d)
+{
+    uint64_t all = d == 64 ? UINT64_MAX : (UINT64_C(1) << d) - 1;
+    for (;;) {
+        uint64_t row = draw() & draw() & all;
+        if (row != 0) return row;
+    }
+}
+
+/* ---- both sides must agree */
+
+static void fail(const char *what)
+{
+    fprintf(stderr, "class: %s differ\n", what);
+    exit(1);
+}
+
+/* One call on both sides. The sheet becomes what ours hands back. */
+static void turn(const uint64_t *table, size_t rows, size_t d, foliokettle_sheet *sheet, size_t desk, uint64_t kind,
+                 uint64_t n, size_t places)
+{
+    static size_t ours[PLACES + 8], theirs[PLACES + 8];
+    foliokettle_sheet in_place = *sheet;
+    for (size_t i = 0; i < PLACES + 8; i++) ours[i] = theirs[i] = 1000 + i;
+    foliokettle_handed handed = foliokettle_call(table, rows, d, *sheet, desk, kind, n, ours, places);
+    foliokettle_told told = peer_call(table, rows, d, &in_place, desk, kind, n, theirs, places);
+    if (memcmp(&handed.told, &told, sizeof told) != 0) fail("answers");
+    if (memcmp(&handed.sheet, &in_place, sizeof in_place) != 0) fail("sheets");
+    if (memcmp(ours, theirs, sizeof ours) != 0) fail("lists");
+    *sheet = handed.sheet;
+}
+
+/* A lesson of drawn calls, most of them sensible. Every so often a damaged sheet is tried, and then put aside. */
+static void lesson(void)
+{
+    size_t d = 1 + draw_below(64), rows = draw_below(ROWS + 1), desks = 1 + draw_below(DESKS);
+    uint64_t table[ROWS];
+    for (size_t i = 0; i < rows; i++) table[i] = draw_row(d);
+    foliokettle_sheet sheet = foliokettle_begin(table, rows, d, desks).sheet;
+    for (size_t t = 0; t < TURNS; t++) {
+        static const uint64_t often[] = {2, 2, 2, 2, 0, 0, 1, 4, 5, 6};
+        uint64_t kind = draw_below(50) == 0 ? draw_below(9) : often[draw_below(10)];
+        if (draw_below(200) == 0) kind = FOLIOKETTLE_RESET;
+        uint64_t n = kind == FOLIOKETTLE_INSERT ? draw_row(d) : draw_below(kind == 1 ? 70 : rows + 20);
+        if (draw_below(40) == 0) n = draw();
+        size_t desk = draw_below(30) == 0 ? draw_below(40) : draw_below(desks);
+        size_t places = draw_below(10) == 0 ? draw_below(PLACES) : PLACES + draw_below(9);
+        turn(table, rows, d, &sheet, desk, kind, n, places);
+        if (draw_below(20) == 0) {
+            foliokettle_sheet damaged = sheet;
+            ((uint64_t *)&damaged)[draw_below(sizeof damaged / 8)] = draw_below(2) ? draw() : draw_below(70);
+            turn(table, rows, d, &damaged, desk, kind, n, places);
+        }
+    }
+}
+
+/* ---- the full class */
+
+static uint64_t table[ROWS];
+static foliokettle_sheet full;
+
+static void fill_class(void)
+{
+    for (size_t i = 0; i < ROWS; i++) table[i] = draw_row(64);
+    full = foliokettle_begin(table, ROWS, 64, DESKS).sheet;
+    for (size_t i = 0; i < 512; i++)
+        turn(table, ROWS, 64, &full, i % DESKS, FOLIOKETTLE_INSERT, draw_row(64), 0);
+    for (size_t i = 0; i < 1024; i++)
+        turn(table, ROWS, 64, &full, draw_below(DESKS), FOLIOKETTLE_DELETE_TABLE, draw_below(ROWS), 0);
+    if (full.used != 512) fail("the full class and the plan");
+}
+
+/* ---- time */
+
+static double now_ns(void)
+{
+    struct timespec t;
+    clock_gettime(CLOCK_MONOTONIC, &t);
+    return 1e9 * (double)t.tv_sec + (double)t.tv_nsec;
+}
+
+typedef struct {
+    const char *name;
+    size_t desk;
+    uint64_t kind, n;
+    int drop; /* first a row goes, so that there is room */
+} measured;
+
+static foliokettle_sheet start, after;
+static size_t list[PLACES];
+static volatile uint64_t sink;
+
+static void ours_call(const measured *m)
+{
+    foliokettle_handed handed = foliokettle_call(table, ROWS, 64, start, m->desk, m->kind, m->n, list, PLACES);
+    sink += handed.told.first + handed.sheet.used;
+}
+
+static void copy_only(const measured *m)
+{
+    memcpy(&after, &start, sizeof after);
+    sink += after.used + m->n;
+}
+
+static void copied_call(const measured *m)
+{
+    memcpy(&after, &start, sizeof after);
+    foliokettle_told told = peer_call(table, ROWS, 64, &after, m->desk, m->kind, m->n, list, PLACES);
+    sink += told.first + after.used;
+}
+
+static double once(void (*side)(const measured *), const measured *m, size_t times)
+{
+    double t = now_ns();
+    for (size_t i = 0; i < times; i++) side(m);
+    return (now_ns() - t) / (double)times;
+}
+
+static void measure(const measured *m)
+{
+    double ours = 1e18, copied = 1e18, copy = 1e18;
+    start = full;
+    if (m->drop) turn(table, ROWS, 64, &start, m->desk, FOLIOKETTLE_DELETE_OWN, 0, 0);
+    size_t times = (size_t)(ROUND_NS / (1 + once(ours_call, m, 20))) + 1;
+    for (int round = 0; round < ROUNDS; round++) {
+        double a = once(ours_call, m, times), b = once(copied_call, m, times), c = once(copy_only, m, times);
+        if (a < ours) ours = a;
+        if (b < copied) copied = b;
+        if (c < copy) copy = c;
+    }
+    printf("| %-28s | %6.0f | %6.0f | %5.2f | %6.0f | %5.2f |\n", m->name, ours, copied, ours / copied, copied - copy,
+           ours / (copied - copy));
+}
+
+int main(void)
+{
+    for (int i = 0; i < LESSONS; i++) lesson();
+    printf("class: %d lessons of %d turns, and damaged sheets: answers, sheets and lists are the same\n", LESSONS, TURNS);
+    fill_class();
+    size_t hid = 0;
+    while (full.marks[0] >> hid & 1) hid++;
+    const measured calls[] = {
+        {"delete a table row", 0, FOLIOKETTLE_DELETE_TABLE, hid, 0},
+        {"delete an own row", 7, FOLIOKETTLE_DELETE_OWN, 5, 0},
+        {"insert", 7, FOLIOKETTLE_INSERT, 5, 1},
+        {"insert, refused with 10", 7, FOLIOKETTLE_INSERT, 5, 0},
+        {"reset", 7, FOLIOKETTLE_RESET, 0, 0},
+        {"look at the last row", 7, FOLIOKETTLE_LOOK, 0, 0},
+        {"count", 7, FOLIOKETTLE_COUNT, 0, 0},
+        {"distinct", 7, FOLIOKETTLE_DISTINCT, 0, 0},
+        {"no such desk", 40, FOLIOKETTLE_COUNT, 0, 0},
+    };
+    printf("class: nanoseconds of a call on a full class\n");
+    printf("| call                         |   ours | C, hands back | ratio | C in place | ratio |\n|---|---|---|---|---|---|\n");
+    for (size_t i = 0; i < sizeof calls / sizeof calls[0]; i++) {
+        measured m = calls[i];
+        if (m.kind == FOLIOKETTLE_LOOK) {
+            foliokettle_handed counted = foliokettle_call(table, ROWS, 64, full, m.desk, FOLIOKETTLE_COUNT, 0, list, PLACES);
+            m.n = counted.told.first - 1;
+        }
+        measure(&m);
+    }
+    return 0;
+}
