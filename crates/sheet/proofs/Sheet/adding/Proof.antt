@@ -4,8 +4,6 @@ use native.Mathlib.Numerals.{unary-clauses}
 use borrow.Author.Needs.{needs}
 use Rattle.sheet.proofs.Sheet.adding.Statement.{statement}
 use Rattle.sheet.proofs.Sheet.adding.Tie as tie
-use Rattle.sheet.proofs.Sheet.adding.Reads as reads
-use Rattle.sheet.proofs.Sheet.adding.Lts as lts
 
 mul-next : tie.Need-mul-next
 mul-next c = search needs

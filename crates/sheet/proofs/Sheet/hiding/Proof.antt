@@ -4,9 +4,6 @@ use Rattle.sheet.specs.Changes.{marking}
 use borrow.Author.Needs.{needs}
 use Rattle.sheet.proofs.Sheet.hiding.Statement.{statement}
 use Rattle.sheet.proofs.Sheet.hiding.Tie as tie
-use Rattle.sheet.proofs.Sheet.hiding.Reads as reads
-use Rattle.sheet.proofs.Sheet.hiding.Lts as lts
-use Rattle.sheet.proofs.marks.hide.Reads as hide-reads
 
 hide-requires : tie.Need-hide-requires
 hide-requires c κs = search needs

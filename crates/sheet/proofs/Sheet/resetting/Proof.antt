@@ -5,10 +5,6 @@ use Rattle.sheet.specs.Changes.{marking, showing}
 use borrow.Author.Needs.{needs}
 use Rattle.sheet.proofs.Sheet.resetting.Statement.{statement}
 use Rattle.sheet.proofs.Sheet.resetting.Tie as tie
-use Rattle.sheet.proofs.Sheet.resetting.Reads as reads
-use Rattle.sheet.proofs.Sheet.resetting.Lts as lts
-use Rattle.sheet.proofs.Sheet.without.Reads as without-reads
-use Rattle.sheet.proofs.marks.show_all.Reads as show-all-reads
 
 without-requires : tie.Need-without-requires
 without-requires c κs = search needs

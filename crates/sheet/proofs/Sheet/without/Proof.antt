@@ -7,9 +7,6 @@ use Rattle.sheet.specs.Changes.{placing, padded, stays}
 use borrow.Author.Needs.{needs}
 use Rattle.sheet.proofs.Sheet.without.Statement.{statement}
 use Rattle.sheet.proofs.Sheet.without.Tie as tie
-use Rattle.sheet.proofs.Sheet.without.Reads as reads
-use Rattle.sheet.proofs.Sheet.without.Lts as lts
-use Rattle.sheet.proofs.places.close_up.Reads as close-up-reads
 
 close-up-requires : tie.Need-close-up-requires
 close-up-requires c κs = search needs

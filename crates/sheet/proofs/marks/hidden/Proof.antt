@@ -3,9 +3,6 @@ use Rattle.sheet.specs.Sheets.{hides}
 use borrow.Author.Needs.{needs}
 use Rattle.sheet.proofs.marks.hidden.Statement.{statement}
 use Rattle.sheet.proofs.marks.hidden.Tie as tie
-use Rattle.sheet.proofs.marks.hidden.Reads as reads
-use Rattle.sheet.proofs.marks.hidden.Lts as lts
-use Rattle.sets.proofs.has.Reads as has-reads
 
 mul-word : tie.Need-mul-word
 mul-word c = search needs

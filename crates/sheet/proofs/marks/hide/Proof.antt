@@ -6,9 +6,6 @@ use Rattle.sheet.specs.Changes.{hide}
 use borrow.Author.Needs.{needs}
 use Rattle.sheet.proofs.marks.hide.Statement.{statement}
 use Rattle.sheet.proofs.marks.hide.Tie as tie
-use Rattle.sheet.proofs.marks.hide.Reads as reads
-use Rattle.sheet.proofs.marks.hide.Lts as lts
-use Rattle.sets.proofs.with.Reads as with-reads
 
 mul-at : tie.Need-mul-at
 mul-at c = search needs

@@ -8,10 +8,6 @@ use borrow.Author.Needs.{needs}
 use Rattle.sheet.proofs.Markings.{Marked, marked-start, marked-wrong, marked-more, marked-all}
 use Rattle.sheet.proofs.marks.marks_right.Statement.{statement}
 use Rattle.sheet.proofs.marks.marks_right.Tie as tie
-use Rattle.sheet.proofs.marks.marks_right.Reads as reads
-use Rattle.sheet.proofs.marks.marks_right.Lts as lts
-use Rattle.sets.proofs.subset.Reads as subset-reads
-use Rattle.sheet.proofs.marks.may_hide.Reads as may-hide-reads
 
 abbrev Inv-loop : tie.InvT-loop
 Inv-loop desks rows marks next₀ next = Marked desks rows marks next

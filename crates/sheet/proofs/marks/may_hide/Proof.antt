@@ -6,9 +6,6 @@ use Rattle.sheet.proofs.Markings.{may-none, may-first}
 use borrow.Author.Needs.{needs}
 use Rattle.sheet.proofs.marks.may_hide.Statement.{statement}
 use Rattle.sheet.proofs.marks.may_hide.Tie as tie
-use Rattle.sheet.proofs.marks.may_hide.Reads as reads
-use Rattle.sheet.proofs.marks.may_hide.Lts as lts
-use Rattle.sets.proofs.all.Reads as all-reads
 
 returns : tie.Need-returns
 returns c = let a = c .before .args in may-none (a .desks) (a .rows) (a .word) zero refl (λ v k l. omega (arith, c .if1 .taken))

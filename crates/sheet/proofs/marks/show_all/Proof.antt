@@ -9,8 +9,6 @@ use lib.ListN.{set}
 use Rattle.sheet.specs.Changes.{wiped}
 use Rattle.sheet.proofs.marks.show_all.Statement.{statement}
 use Rattle.sheet.proofs.marks.show_all.Tie as tie
-use Rattle.sheet.proofs.marks.show_all.Reads as reads
-use Rattle.sheet.proofs.marks.show_all.Lts as lts
 
 abbrev Inv-loop : tie.InvT-loop
 Inv-loop marks₀ desk first next₀ marks next = (next ≤ 4) × (marks ≡ wiped marks₀ (desk * 4) next)

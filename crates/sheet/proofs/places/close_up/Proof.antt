@@ -9,10 +9,6 @@ use Rattle.sheet.specs.Removals.{ClosedUp}
 use Rattle.sheet.proofs.ClosingPass.{Passing, passing-start, passing-few, passing-go, passing-stay}
 use Rattle.sheet.proofs.places.close_up.Statement.{statement}
 use Rattle.sheet.proofs.places.close_up.Tie as tie
-use Rattle.sheet.proofs.places.close_up.Reads as reads
-use Rattle.sheet.proofs.places.close_up.Lts as lts
-use Rattle.sheet.proofs.places.goes.Reads as goes-reads
-use Rattle.sheet.proofs.places.seen_with.Reads as seen-with-reads
 
 abbrev Inv-loop : tie.InvT-loop
 Inv-loop desk from upto used sets owners rest₀ whose₀ seen₀ left₀ next₀ rest whose seen left next =

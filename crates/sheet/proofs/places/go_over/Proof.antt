@@ -10,10 +10,6 @@ use Rattle.sheet.specs.Surveys.{placesOf}
 use Rattle.sheet.proofs.Surveying.{Tallied, tally-start, tally-wrong, tally-owner, tally-row, tally-small, tally-more, tally-all}
 use Rattle.sheet.proofs.places.go_over.Statement.{statement}
 use Rattle.sheet.proofs.places.go_over.Tie as tie
-use Rattle.sheet.proofs.places.go_over.Reads as reads
-use Rattle.sheet.proofs.places.go_over.Lts as lts
-use Rattle.sets.proofs.within.Reads as within-reads
-use Rattle.sheet.proofs.places.rest_empty.Reads as rest-empty-reads
 
 abbrev Inv-loop : tie.InvT-loop
 Inv-loop d desks used sets owners counts₀ next₀ counts next = Tallied (placesOf d desks used sets owners) counts next

@@ -3,8 +3,6 @@ use mathlib.Core.Path.{refl}
 use borrow.Author.Tests.{eq-eqb, ne-eqb, le-leb, lt-leb}
 use Rattle.sheet.proofs.places.goes.Statement.{statement}
 use Rattle.sheet.proofs.places.goes.Tie as tie
-use Rattle.sheet.proofs.places.goes.Reads as reads
-use Rattle.sheet.proofs.places.goes.Lts as lts
 
 returns : tie.Need-returns
 returns c = let a = c .before .args in rw (ne-eqb (a .owner) (a .desk) (c .if1 .taken)) refl

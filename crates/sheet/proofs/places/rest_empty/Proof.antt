@@ -5,8 +5,6 @@ use borrow.Author.Needs.{needs}
 use Rattle.sheet.proofs.Surveying.{Spare, spare-start, spare-more, spare-owner, spare-set, spare-all}
 use Rattle.sheet.proofs.places.rest_empty.Statement.{statement}
 use Rattle.sheet.proofs.places.rest_empty.Tie as tie
-use Rattle.sheet.proofs.places.rest_empty.Reads as reads
-use Rattle.sheet.proofs.places.rest_empty.Lts as lts
 
 abbrev Inv-loop : tie.InvT-loop
 Inv-loop used sets owners next₀ next = Spare used sets owners next

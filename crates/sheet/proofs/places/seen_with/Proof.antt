@@ -5,8 +5,6 @@ use borrow.Author.Tests.{eq-eqb, ne-eqb}
 use borrow.Author.Needs.{needs}
 use Rattle.sheet.proofs.places.seen_with.Statement.{statement}
 use Rattle.sheet.proofs.places.seen_with.Tie as tie
-use Rattle.sheet.proofs.places.seen_with.Reads as reads
-use Rattle.sheet.proofs.places.seen_with.Lts as lts
 
 add-result : tie.Need-add-result
 add-result c = search needs

@@ -14,8 +14,6 @@ use Rattle.sheet.specs.Upto.{allTo}
 use Rattle.sheet.proofs.UptoLaws.{all-fails}
 use Rattle.sheet.proofs.shares.none_over.Statement.{statement}
 use Rattle.sheet.proofs.shares.none_over.Tie as tie
-use Rattle.sheet.proofs.shares.none_over.Reads as reads
-use Rattle.sheet.proofs.shares.none_over.Lts as lts
 
 -- the test of one desk
 abbrev fits : List ℕ → ℕ → Bool

@@ -8,9 +8,6 @@ use Rattle.theory.specs.Pairings.{at}
 use Rattle.sheet.specs.Upto.{sumTo}
 use Rattle.sheet.proofs.shares.owed.Statement.{statement}
 use Rattle.sheet.proofs.shares.owed.Tie as tie
-use Rattle.sheet.proofs.shares.owed.Reads as reads
-use Rattle.sheet.proofs.shares.owed.Lts as lts
-use Rattle.sheet.proofs.shares.owed_to.Reads as owed-to-reads
 
 abbrev Inv-loop : tie.InvT-loop
 Inv-loop desks counts sum₀ next₀ sum next = (next ≤ desks) × (sum ≡ sumTo (λ k. 8 - at counts k) next) × (sum ≤ next * 8)

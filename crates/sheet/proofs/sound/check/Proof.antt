@@ -9,13 +9,6 @@ use Rattle.sheet.proofs.Checking.{shape-same, places-same, marks-same, 
 use borrow.Author.Needs.{needs}
 use Rattle.sheet.proofs.sound.check.Statement.{statement}
 use Rattle.sheet.proofs.sound.check.Tie as tie
-use Rattle.sheet.proofs.sound.check.Reads as reads
-use Rattle.sheet.proofs.sound.check.Lts as lts
-use Rattle.sheet.proofs.marks.marks_right.Reads as marks-right-reads
-use Rattle.sheet.proofs.places.go_over.Reads as go-over-reads
-use Rattle.sheet.proofs.shares.none_over.Reads as none-over-reads
-use Rattle.sheet.proofs.shares.owed.Reads as owed-reads
-use Rattle.sheet.proofs.sound.shaped.Reads as shaped-reads
 
 -- the sheet that the arguments are parts of
 abbrev sheetAt : tie.Start → Sheet

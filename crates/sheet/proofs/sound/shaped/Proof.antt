@@ -4,8 +4,6 @@ use borrow.Author.Tests.{le-leb, lt-leb}
 use Rattle.sheet.specs.Sheets.{shaped}
 use Rattle.sheet.proofs.sound.shaped.Statement.{statement}
 use Rattle.sheet.proofs.sound.shaped.Tie as tie
-use Rattle.sheet.proofs.sound.shaped.Reads as reads
-use Rattle.sheet.proofs.sound.shaped.Lts as lts
 
 returns : tie.Need-returns
 unfolding shaped
