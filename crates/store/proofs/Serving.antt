@@ -6,17 +6,17 @@ use mathlib.Core.List.{List, [], _∷_}
 use lib.Dec.{eqb}
 use lib.ListN.{length, take}
 use Rattle.theory.specs.Pairings.{at}
+use Rattle.theory.specs.Kept.{kept}
 use Rattle.sheet.specs.declared.Sheet.{Sheet}
 use Rattle.sheet.specs.Upto.{sumTo}
 use Rattle.sheet.specs.Sheets.{own, hides}
-use Rattle.store.specs.declared.Target.{Target}
 use Rattle.store.specs.declared.Target.the-variants.{Table, Own}
 use Rattle.store.specs.declared.Call.{Call}
 use Rattle.store.specs.declared.Call.the-variants.{Delete, Insert, Reset, Look, Count, Distinct}
 use Rattle.store.specs.declared.Answer.{Answer}
-use Rattle.store.specs.declared.Answer.the-variants.{Done, Counted, Refused}
+use Rattle.store.specs.declared.Answer.the-variants.{Done, Seen, Counted, Listed, Refused}
 use Rattle.store.specs.Answers.{Case, judged}
-use Rattle.store.specs.Desks.{deletes, inserts, looks, lists, view, serve, listAfter}
+use Rattle.store.specs.Desks.{rowCases, hideCases, insertCases, listCases, view, serve, listAfter}
 use Rattle.store.specs.Views.{Viewed}
 use Rattle.store.specs.Calls.{crowded}
 use Rattle.store.specs.Serving.{Trusted, Served}
@@ -32,24 +32,26 @@ silent d rows list (c ∷ cs) a p = go (c .applies) (silent d rows list cs a p)
     go true q = refl
     go false q = q
 
-silent-delete : (d : ℕ) (rows list : List ℕ) (n : ℕ) (hid : ℕ → Bool) (held : ℕ) (t : Target) → listAfter d rows (deletes n hid held t) list ≡ list
-unfolding listAfter
-silent-delete d rows list n hid held (Table i) = silent d rows list _ Done refl
-silent-delete d rows list n hid held (Own i) = silent d rows list _ Done refl
-
 module _ (d : ℕ) (table : List ℕ) (s : Sheet) (counts : List ℕ) (k : ℕ) (T : Trusted d table s counts k) (old : List ℕ) (c : Call) where
   mine : at counts k ≡ length (own s k)
   mine = limits d table s counts k T .mine
 
-  pub served-delete : (t : Target) → c ≡ Delete t → (r : Answer) → r ≡ deletes (length table) (hides (s .marks) k) (at counts k) t → Served d table s k c old r old
-  unfolding serve
-  served-delete t e r a = record {
+  pub served-hide : (n : ℕ) → c ≡ Delete (Table n) → (r : Answer) → r ≡ judged (hideCases (length table) (hides (s .marks) k) n) Done → Served d table s k c old r old
+  unfolding serve listAfter
+  served-hide n e r a = record {
+    answer-is = rw e a;
+    list-is = rw a (sym (silent d (view table (hides (s .marks) k) (own s k)) old (hideCases (length table) (hides (s .marks) k) n) Done refl));
+  }
+
+  pub served-take : (n : ℕ) → c ≡ Delete (Own n) → (r : Answer) → r ≡ judged (rowCases (at counts k) n) Done → Served d table s k c old r old
+  unfolding serve listAfter
+  served-take n e r a = record {
     answer-is = rw (e, sym mine) a;
-    list-is = rw a (sym (silent-delete d (view table (hides (s .marks) k) (own s k)) old (length table) (hides (s .marks) k) (at counts k) t));
+    list-is = rw a (sym (silent d (view table (hides (s .marks) k) (own s k)) old (rowCases (at counts k) n) Done refl));
   }
 
   pub served-insert : (set : ℕ) → c ≡ Insert set → (owes : ℕ) → owes ≡ sumTo (λ j. 8 - at counts j) (s .desks) → (r : Answer)
-      → r ≡ inserts d (eqb (s .used + owes) 512) (at counts k) set → Served d table s k c old r old
+      → r ≡ judged (insertCases d (eqb (s .used + owes) 512) (at counts k) set) Done → Served d table s k c old r old
   unfolding serve crowded listAfter
   served-insert set e owes o r a = record {
     answer-is = rw (e, sym mine, sym (limits d table s counts k T .owes), sym o) a;
@@ -57,11 +59,11 @@ module _ (d : ℕ) (table : List ℕ) (s : Sheet) (counts : List ℕ) (k : ℕ) 
   }
 
   pub served-reset : c ≡ Reset → Served d table s k c old Done old
-  unfolding serve listAfter
+  unfolding serve judged listAfter
   served-reset e = record { answer-is = rw e refl; list-is = refl }
 
   module _ (m : ℕ) (rows : List ℕ) (seen : Viewed table (hides (s .marks) k) (own s k) m rows) where
-    pub served-look : (n : ℕ) → c ≡ Look n → (r : Answer) → r ≡ looks (take m rows) n → Served d table s k c old r old
+    pub served-look : (n : ℕ) → c ≡ Look n → (r : Answer) → r ≡ judged (rowCases (length (take m rows)) n) (Seen (at (take m rows) n)) → Served d table s k c old r old
     unfolding serve listAfter
     served-look n e r a = record {
       answer-is = rw (e, sym (seen .is)) a;
@@ -69,10 +71,10 @@ module _ (d : ℕ) (table : List ℕ) (s : Sheet) (counts : List ℕ) (k : ℕ) 
     }
 
     pub served-count : c ≡ Count → Served d table s k c old (Counted m (at counts k)) old
-    unfolding serve listAfter
+    unfolding serve judged listAfter
     served-count e = record { answer-is = rw (e, seen .count, mine) refl; list-is = refl }
 
-    pub served-distinct : c ≡ Distinct → (r : Answer) (list : List ℕ) → r ≡ lists d (length old) (take m rows) → list ≡ listAfter d (take m rows) r old
+    pub served-distinct : c ≡ Distinct → (r : Answer) (list : List ℕ) → r ≡ judged (listCases (length old) (length (take m rows))) (Listed (length (kept d (take m rows)))) → list ≡ listAfter d (take m rows) r old
         → Served d table s k c old r list
     unfolding serve
     served-distinct e r list a l = record { answer-is = rw (e, sym (seen .is)) a; list-is = rw (sym (seen .is)) l }

@@ -110,7 +110,7 @@ module _ {d : ℕ} {table : List ℕ} {desks : ℕ} {tell : Store} (begun : acce
 
   pub no-made-up-count : (past : List Turn) (k : ℕ) (list : List ℕ) → k < desks
       → tell past (turn k Count list) .answer ≡ Counted (length (seen k past)) (heldBy tell k past)
-  unfolding properCall serve
+  unfolding properCall serve judged
   no-made-up-count past k list h = answered-alone past k Count list h refl
 
   -- ---- a delete that answers yes and hides nothing

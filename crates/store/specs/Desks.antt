@@ -8,55 +8,59 @@ use Rattle.sets.specs.Sets.{within}
 use Rattle.theory.specs.Pairings.{at}
 use Rattle.theory.specs.Kept.{kept}
 use Rattle.sheet.specs.Upto.{those}
-use Rattle.store.specs.declared.Target.{Target}
 use Rattle.store.specs.declared.Target.the-variants.{Table, Own}
 use Rattle.store.specs.declared.Call.{Call}
 use Rattle.store.specs.declared.Call.the-variants.{Delete, Insert, Reset, Look, Count, Distinct}
 use Rattle.store.specs.declared.Refusal.the-variants.{NoRow, HiddenAlready, BadSet, Full, NoRoom, ShortList, LongView}
 use Rattle.store.specs.declared.Answer.{Answer}
 use Rattle.store.specs.declared.Answer.the-variants.{Done, Seen, Counted, Listed, Refused}
-use Rattle.store.specs.Answers.{judged, _gives_}
+use Rattle.store.specs.Answers.{Case, _gives_, judged}
 
 -- 'A desk's view is the table's rows that it hasn't hidden, in table order, then its own rows in order of insertion.'
 unfoldable pub view : List ℕ → (ℕ → Bool) → List ℕ → List ℕ
 view table hid own = those (λ i. not (hid i)) table (length table) ++ own
 
--- ---- refusals 6 to 12, lowest first, and the answers
+-- ---- refusals 6 to 12, lowest first
 
--- a delete of table row n: 6 and 7
-abbrev pub deletesTable : ℕ → (ℕ → Bool) → ℕ → Answer
-deletesTable rows hid n = judged ((leb rows n gives NoRow) ∷ (hid n gives HiddenAlready) ∷ []) Done
+-- 6: there is no row n among so many
+abbrev pub rowCases : ℕ → ℕ → List Case
+rowCases many n = (leb many n gives NoRow) ∷ []
 
--- a delete of own row n: 6
-abbrev pub deletesOwn : ℕ → ℕ → Answer
-deletesOwn held n = judged ((leb held n gives NoRow) ∷ []) Done
+-- 6 and 7: a delete of table row n
+abbrev pub hideCases : ℕ → (ℕ → Bool) → ℕ → List Case
+hideCases rows hid n = (leb rows n gives NoRow) ∷ (hid n gives HiddenAlready) ∷ []
 
-abbrev pub deletes : ℕ → (ℕ → Bool) → ℕ → Target → Answer
-deletes rows hid held (Table n) = deletesTable rows hid n
-deletes rows hid held (Own n) = deletesOwn held n
+-- 8, 9 and 10: an insert. `full`: used plus owed is 512
+abbrev pub insertCases : ℕ → Bool → ℕ → ℕ → List Case
+insertCases d full held set = (not (within d set) gives BadSet) ∷ (leb 64 held gives Full) ∷ ((leb 8 held && full) gives NoRoom) ∷ []
 
--- an insert: 8, 9 and 10. `full`: used plus owed is 512
-abbrev pub inserts : ℕ → Bool → ℕ → ℕ → Answer
-inserts d full held set =
-    judged ((not (within d set) gives BadSet) ∷ (leb 64 held gives Full) ∷ ((leb 8 held && full) gives NoRoom) ∷ []) Done
+-- 11 and 12: DISTINCT. `places`: those of the lent list
+abbrev pub listCases : ℕ → ℕ → List Case
+listCases places many = (ltb places many gives ShortList) ∷ (ltb 320 many gives LongView) ∷ []
 
--- a look at position n of the view: 6
-abbrev pub looks : List ℕ → ℕ → Answer
-looks rows n = judged ((leb (length rows) n gives NoRow) ∷ []) (Seen (at rows n))
-
--- DISTINCT over the view: 11 and 12. `places`: those of the lent list
-abbrev pub lists : ℕ → ℕ → List ℕ → Answer
-lists d places rows =
-    judged ((ltb places (length rows) gives ShortList) ∷ (ltb 320 (length rows) gives LongView) ∷ []) (Listed (length (kept d rows)))
+-- ---- one desk's call
 
 module _ (d : ℕ) (table : List ℕ) (full : Bool) (places : ℕ) (hid : ℕ → Bool) (own : List ℕ) where
+  abbrev pub callCases : Call → List Case
+  callCases (Delete (Table n)) = hideCases (length table) hid n
+  callCases (Delete (Own n)) = rowCases (length own) n
+  callCases (Insert set) = insertCases d full (length own) set
+  callCases Reset = []
+  callCases (Look n) = rowCases (length (view table hid own)) n
+  callCases Count = []
+  callCases Distinct = listCases places (length (view table hid own))
+
+  -- the answer where none applies
+  abbrev pub granted : Call → Answer
+  granted (Delete t) = Done
+  granted (Insert set) = Done
+  granted Reset = Done
+  granted (Look n) = Seen (at (view table hid own) n)
+  granted Count = Counted (length (view table hid own)) (length own)
+  granted Distinct = Listed (length (kept d (view table hid own)))
+
   unfoldable pub serve : Call → Answer
-  serve (Delete t) = deletes (length table) hid (length own) t
-  serve (Insert set) = inserts d full (length own) set
-  serve Reset = Done
-  serve (Look n) = looks (view table hid own) n
-  serve Count = Counted (length (view table hid own)) (length own)
-  serve Distinct = lists d places (view table hid own)
+  serve c = judged (callCases c) (granted c)
 
 -- 'the first n places of the lent list get the kept positions, later places keep what they had'; other calls write nothing
 unfoldable pub listAfter : ℕ → List ℕ → Answer → List ℕ → List ℕ

@@ -2,13 +2,15 @@
 ghost use mathlib.Core.Path.{_≡_};
 ghost use Prim.Native.Nat.{_<_, _≤_};
 ghost use lib.ListN.{length};
+ghost use Rattle.theory.specs.Pairings.{at};
+ghost use Rattle.theory.specs.Kept.{kept};
 ghost use Rattle.distinct.specs.Steps.{InColumn};
 ghost use Rattle.sheet.specs.Sheets.{hides};
 ghost use Rattle.sheet.specs.Surveys.{sheetOf};
-ghost use Rattle.store.specs.declared.Answer.the-variants.{Done};
+ghost use Rattle.store.specs.declared.Answer.the-variants.{Done, Seen, Listed};
 ghost use Rattle.store.specs.Answers.{judged};
 ghost use Rattle.store.specs.Calls.{deskCases};
-ghost use Rattle.store.specs.Desks.{deletesTable, deletesOwn, deletes, inserts, looks, lists, listAfter};
+ghost use Rattle.store.specs.Desks.{rowCases, hideCases, insertCases, listCases, listAfter};
 ghost use Rattle.store.specs.Serving.{Trusted, Served};
 use crate::Answer;
 use crate::Call;
@@ -43,7 +45,7 @@ pub fn known(
 // A table row is hidden, of `rows` that the table has.
 fn delete_table(rows: usize, marks: &[u64; Sheet::MARKS], desk: usize, n: usize) -> Answer
     requires { ⌜ (desk < 32) × (rows ≤ 256) ⌝ }
-    ensures { λ r. ⌜ r ≡ deletesTable rows (hides (now (marks .entry)) desk) n ⌝ }
+    ensures { λ r. ⌜ r ≡ judged (hideCases rows (hides (now (marks .entry)) desk) n) Done ⌝ }
 {
     if rows <= n {
         return Answer::Refused(Refusal::NoRow);
@@ -56,7 +58,7 @@ fn delete_table(rows: usize, marks: &[u64; Sheet::MARKS], desk: usize, n: usize)
 
 // An own row goes, of those that the desk has.
 fn delete_own(held: usize, n: usize) -> Answer
-    ensures { λ r. ⌜ r ≡ deletesOwn held n ⌝ }
+    ensures { λ r. ⌜ r ≡ judged (rowCases held n) Done ⌝ }
 {
     if held <= n {
         return Answer::Refused(Refusal::NoRow);
@@ -67,7 +69,7 @@ fn delete_own(held: usize, n: usize) -> Answer
 // A row is put in; `full` where every free place is owed.
 fn insert(d: usize, full: bool, held: usize, set: u64) -> Answer
     requires { ⌜ d ≤ 64 ⌝ }
-    ensures { λ r. ⌜ r ≡ inserts d full held set ⌝ }
+    ensures { λ r. ⌜ r ≡ judged (insertCases d full held set) Done ⌝ }
 {
     if !sets::within(set, d) {
         return Answer::Refused(Refusal::BadSet);
@@ -86,7 +88,7 @@ fn insert(d: usize, full: bool, held: usize, set: u64) -> Answer
 
 // A row of the view is shown.
 fn look(rows: &[u64], n: usize) -> Answer
-    ensures { λ r. ⌜ r ≡ looks (now (rows .entry)) n ⌝ }
+    ensures { λ r. ⌜ r ≡ judged (rowCases (length (now (rows .entry))) n) (Seen (at (now (rows .entry)) n)) ⌝ }
 {
     if rows.len() <= n {
         return Answer::Refused(Refusal::NoRow);
@@ -97,29 +99,13 @@ fn look(rows: &[u64], n: usize) -> Answer
 // The kept rows of the view are listed.
 fn list_kept(d: usize, rows: &[u64], list: &mut [usize]) -> Answer
     requires { ⌜ (length (now rows) ≤ 320) × InColumn d (now rows) ⌝ }
-    ensures { λ r. ⌜ (r ≡ lists d (length (now (list .entry))) (now (rows .entry))) × (now (list .exit) ≡ listAfter d (now (rows .entry)) r (now (list .entry))) ⌝ }
+    ensures { λ r. ⌜ (r ≡ judged (listCases (length (now (list .entry))) (length (now (rows .entry)))) (Listed (length (kept d (now (rows .entry)))))) × (now (list .exit) ≡ listAfter d (now (rows .entry)) r (now (list .entry))) ⌝ }
 {
     if list.len() < rows.len() {
         return Answer::Refused(Refusal::ShortList);
     }
     let n = distinct::distinct(d, rows, list);
     Answer::Listed(n)
-}
-
-fn delete(
-    rows: usize,
-    marks: &[u64; Sheet::MARKS],
-    desk: usize,
-    held: usize,
-    target: Target,
-) -> Answer
-    requires { ⌜ (desk < 32) × (rows ≤ 256) ⌝ }
-    ensures { λ r. ⌜ r ≡ deletes rows (hides (now (marks .entry)) desk) held target ⌝ }
-{
-    match target {
-        Target::Table(n) => delete_table(rows, marks, desk, n),
-        Target::Own(n) => delete_own(held, n),
-    }
 }
 
 // What the desk is told: the answer, and for DISTINCT the kept positions in its list.
@@ -141,7 +127,10 @@ pub fn serve<'a>(
 {
     let held = counts[desk];
     match call {
-        Call::Delete(target) => delete(table.len(), marks, desk, held, target),
+        Call::Delete(target) => match target {
+            Target::Table(n) => delete_table(table.len(), marks, desk, n),
+            Target::Own(n) => delete_own(held, n),
+        },
         Call::Insert(set) => {
             let owed = sheet::shares::owed(desks, counts);
             insert(d, used + owed == Sheet::PLACES, held, set)

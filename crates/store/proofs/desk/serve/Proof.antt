@@ -2,8 +2,9 @@
 use mathlib.Core.Path.{refl, sym, ap, _∙_}
 use native.Mathlib.Omega.{arith}
 use lib.ListN.{length}
+use Rattle.store.specs.declared.Call.the-variants.{Delete}
 use Rattle.store.proofs.Trusting.{limits, in-column}
-use Rattle.store.proofs.Serving.{served-delete, served-insert, served-reset, served-look, served-count, served-distinct}
+use Rattle.store.proofs.Serving.{served-hide, served-take, served-insert, served-reset, served-look, served-count, served-distinct}
 use borrow.Author.Needs.{needs}
 use Rattle.store.proofs.desk.serve.Statement.{statement}
 use Rattle.store.proofs.desk.serve.Tie as tie
@@ -21,10 +22,19 @@ element-copy-out-held c = let e = c .before .before in
 enum-known-call : tie.Need-enum-known-call
 enum-known-call c = search needs
 
-delete-requires : tie.Need-delete-requires
-delete-requires c κs = let e = c .before .before .before .before .before .before in
+enum-known-target : tie.Need-enum-known-target
+enum-known-target c = search needs
+
+delete-table-requires : tie.Need-delete-table-requires
+delete-table-requires c κs = let e = c .before .before .before .before .before .before .before .before .before in
     let L = limits _ _ _ _ _ (e .pre) in
     (L .desk, L .table-rows)
+
+enum-known-target-2 : tie.Need-enum-known-target-2
+enum-known-target-2 c = search needs
+
+delete-own-requires : tie.Need-delete-own-requires
+delete-own-requires c κs = search needs
 
 enum-known-call-2 : tie.Need-enum-known-call-2
 enum-known-call-2 c = search needs
@@ -103,30 +113,34 @@ list-kept-requires c κs = let e = c .before .before .before .before .before .be
     (rw (seen .is) (rw (sym (seen .count)) (seen .most)), rw (seen .is) (in-column _ _ _ _ _ (e .pre) refl))
 
 returns : tie.Need-returns
-returns c = let e = c .before .before .before .before .before .before .before in
-    served-delete _ _ _ _ _ (e .pre) (e .args .list .now) (e .args .call) _ (c .before .before .call .given .1) _ (c .delete .ensures)
+returns c = let e = c .before .before .before .before .before .before .before .before .before .before in
+    served-hide _ _ _ _ _ (e .pre) (e .args .list .now) (e .args .call) _ (c .before .before .before .before .before .call .given .1 ∙ ap Delete (c .before .before .target .given .1)) _ (c .delete-table .ensures)
 
 returns-2 : tie.Need-returns-2
-returns-2 c = let e = c .before .before .before .before .before .before .before .before in
-    served-insert _ _ _ _ _ (e .pre) (e .args .list .now) (e .args .call) _ (c .before .before .before .call2 .given .1) _ (c .before .owed .ensures .0) _ (c .insert .ensures)
+returns-2 c = let e = c .before .before .before .before .before .before .before .before .before .before in
+    served-take _ _ _ _ _ (e .pre) (e .args .list .now) (e .args .call) _ (c .before .before .before .before .before .call .given .1 ∙ ap Delete (c .before .before .target2 .given .1)) _ (c .delete-own .ensures)
 
 returns-3 : tie.Need-returns-3
-returns-3 c = let e = c .before .before .before .before .before in
-    served-reset _ _ _ _ _ (e .pre) (e .args .list .now) (e .args .call) (c .enum-told .given .1)
+returns-3 c = let e = c .before .before .before .before .before .before .before .before in
+    served-insert _ _ _ _ _ (e .pre) (e .args .list .now) (e .args .call) _ (c .before .before .before .call2 .given .1) _ (c .before .owed .ensures .0) _ (c .insert .ensures)
 
 returns-4 : tie.Need-returns-4
-returns-4 c = let e = c .before .before .before .before .before .before .before .before .before .before .before in
-    served-look _ _ _ _ _ (e .pre) (e .args .list .now) (e .args .call) _ _ (c .before .before .before .gather .ensures) _ (c .before .before .before .before .before .before .call3 .given .1) _ (c .look .ensures)
+returns-4 c = let e = c .before .before .before .before .before in
+    served-reset _ _ _ _ _ (e .pre) (e .args .list .now) (e .args .call) (c .enum-told .given .1)
 
 returns-5 : tie.Need-returns-5
-returns-5 c = let e = c .before .before .before .before .before .before .before .before in
+returns-5 c = let e = c .before .before .before .before .before .before .before .before .before .before .before in
+    served-look _ _ _ _ _ (e .pre) (e .args .list .now) (e .args .call) _ _ (c .before .before .before .gather .ensures) _ (c .before .before .before .before .before .before .call3 .given .1) _ (c .look .ensures)
+
+returns-6 : tie.Need-returns-6
+returns-6 c = let e = c .before .before .before .before .before .before .before .before in
     served-count _ _ _ _ _ (e .pre) (e .args .list .now) (e .args .call) _ _ (c .before .gather2 .ensures) (c .before .before .before .enum-told2 .given .1)
 
 same-length : tie.Need-same-length
 same-length c = search needs
 
-returns-6 : tie.Need-returns-6
-returns-6 c = let e = c .before .before .before .before .before .before .before .before .before .before .before .before .before in
+returns-7 : tie.Need-returns-7
+returns-7 c = let e = c .before .before .before .before .before .before .before .before .before .before .before .before .before in
     served-distinct _ _ _ _ _ (e .pre) (e .args .list .now) (e .args .call) _ _ (c .before .before .before .before .before .before .gather3 .ensures) (c .before .before .before .before .before .before .before .before .enum-told3 .given .1) _ _ (c .before .before .list-kept .ensures .0) (c .before .before .list-kept .ensures .1)
 
 pub serve-spec : {M : Type 1} → statement M
@@ -136,7 +150,10 @@ serve-spec =
     mul-held
     element-copy-out-held
     enum-known-call
-    delete-requires
+    enum-known-target
+    delete-table-requires
+    enum-known-target-2
+    delete-own-requires
     enum-known-call-2
     owed-requires
     add-insert
@@ -162,5 +179,6 @@ serve-spec =
     returns-3
     returns-4
     returns-5
+    returns-6
     same-length
-    returns-6)
+    returns-7)
