@@ -58,6 +58,10 @@ refused-list d rows r list = refl
 
 -- ---- refusal 10
 
+and-false : (b : Bool) → (b && false) ≡ false
+and-false true = refl
+and-false false = refl
+
 pub ten-is : (a : Answer) → numberOf a ≡ 10 → a ≡ Refused NoRoom
 ten-is Done e = absurd (omega arith)
 ten-is (Seen set) e = absurd (omega arith)
@@ -128,6 +132,16 @@ module _ (d : ℕ) (table : List ℕ) (full : Bool) (places : ℕ) (hid : ℕ �
   serve-next (Look n) p h = absurd (false≢true p)
   serve-next Count p h = absurd (false≢true p)
   serve-next Distinct p h = absurd (false≢true p)
+
+  -- one with fewer than 64 has it where some free place is not owed
+  pub serve-free : (c : Call) → properCall d c ≡ true → length own < 64 → full ≡ false → accepted (serve d table full places hid own c) ≡ true
+  unfolding serve properCall judged accepted
+  serve-free (Delete t) p h f = absurd (false≢true p)
+  serve-free (Insert set) p h f = rw (p, lt-leb 64 (length own) h, f, and-false (leb 8 (length own)))
+  serve-free Reset p h f = absurd (false≢true p)
+  serve-free (Look n) p h f = absurd (false≢true p)
+  serve-free Count p h f = absurd (false≢true p)
+  serve-free Distinct p h f = absurd (false≢true p)
 
   -- the other desks enter through `full` alone, and only by refusal 10
   pub serve-but-ten : (c : Call) → numberOf (serve d table full places hid own c) ≢ 10 → serve d table full places hid own c ≡ serve d table false places hid own c

@@ -9,10 +9,10 @@ use native.Mathlib.Omega.{arith}
 use lib.Dec.{eqb, leb, ltb}
 use lib.Pow.{pow-lt}
 use lib.ListN.{length, take, drop, length-append, length-take, length-drop}
-use borrow.Author.Tests.{lt-ltb, lt-leb, leb-false, eq-eqb, ne-eqb}
+use borrow.Author.Tests.{lt-ltb, ltb-true, lt-leb, leb-false, eq-eqb, ne-eqb}
 use Rattle.theory.specs.Pairings.{at}
 use Rattle.sets.specs.Sets.{below, within}
-use Rattle.sets.proofs.Bools.{and-right, and-both, not-both}
+use Rattle.sets.proofs.Bools.{and-left, and-right, and-both, not-both}
 use Rattle.sheet.specs.Upto.{countTo, those}
 use Rattle.sheet.proofs.UptoLaws.{count-yes, count-no, count-ext, length-those, top-or-below, sum-ext}
 use Rattle.sheet.proofs.SoundParts.{sound-parts}
@@ -22,14 +22,14 @@ use Rattle.store.specs.declared.Call.the-variants.{Delete, Insert, Look,
 use Rattle.store.specs.declared.Refusal.the-variants.{NoDesk, NoRow, HiddenAlready, NoRoom}
 use Rattle.store.specs.declared.Answer.{Answer}
 use Rattle.store.specs.declared.Answer.the-variants.{Done, Seen, Counted, Refused}
-use Rattle.store.specs.Answers.{_gives_, judged, accepted}
+use Rattle.store.specs.Answers.{_gives_, judged, accepted, numberOf}
 use Rattle.store.specs.Desks.{view, serve, Told}
 use Rattle.store.specs.Calls.{begunAnswer}
 use Rattle.store.specs.Promise.{Turn, Store, hiddenIn, ownIn, member, alone, history, heldBy, usedBy, owedBy, properCall, proper, Demand3, sheetOn, classStore}
 use Rattle.store.proofs.Judging.{good-parts, passed, not-given}
 use Rattle.store.proofs.SheetRuns.{reached}
 use Rattle.store.proofs.DeskRuns.{used-is, owed-is}
-use Rattle.store.proofs.Told.{ten-is}
+use Rattle.store.proofs.Told.{ten-is, serve-free}
 use Rattle.store.proofs.ClassKeeps.{class-keeps}
 use Rattle.store.proofs.OnlyStore.{same-history}
 
@@ -196,6 +196,18 @@ module _ {d : ℕ} {table : List ℕ} {desks : ℕ} {tell : Store} (begun : acce
   no-insert-takes-what-is-owed past t p lo hi full =
       let ten = keeps .no-room past t .1 (p, lo, hi, full) in
       λ i. record { answer = ten-is (tell past t .answer) ten i; list = keeps .no-room-list past t ten i }
+
+  -- ---- a freed place that is lost: 'A freed place can be used by the next insert of any desk that the rules allow', whoever freed it
+
+  pub no-freed-place-is-lost : (past : List Turn) (t : Turn) → proper d desks t ≡ true → heldBy tell (t .desk) past < 64
+      → usedBy tell desks past + owedBy tell desks past < 512 → accepted (tell past t .answer) ≡ true
+  unfolding proper alone judged
+  no-freed-place-is-lost past t p few room =
+      let not-ten : numberOf (tell past t .answer) ≢ 10 = λ e. absurd (omega (arith, keeps .no-room past t .0 e .3)) in
+      let h = history tell (t .desk) past in
+      ap (λ (a : Told). accepted (a .answer)) (keeps .as-alone past t not-ten)
+      ∙ (rw (lt-leb desks (t .desk) (ltb-true (t .desk) desks (and-left (ltb (t .desk) desks) (properCall d (t .call)) p)))
+      (serve-free d table false (length (t .list)) (member (hiddenIn h)) (ownIn h) (t .call) (and-right (ltb (t .desk) desks) (properCall d (t .call)) p) few refl))
 
   pub owed-is-kept : (past : List Turn) → usedBy tell desks past + owedBy tell desks past ≤ 512
   owed-is-kept past =
