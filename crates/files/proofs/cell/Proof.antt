@@ -1,0 +1,22 @@
+-- `cell` meets its contract. Assumes nothing.
+use mathlib.Core.Path.{refl, _∙_}
+use Rattle.files.specs.Files.{cellIn}
+use borrow.Author.Needs.{needs}
+use Rattle.files.proofs.cell.Statement.{statement}
+use Rattle.files.proofs.cell.Tie as tie
+
+row-requires : tie.Need-row-requires
+row-requires c κs = search needs
+
+union-requires : tie.Need-union-requires
+union-requires c κs = search needs
+
+known-requires : tie.Need-known-requires
+known-requires c κs = search needs
+
+returns : tie.Need-returns
+unfolding cellIn
+returns c = c .known .ensures ∙ (rw (c .before .before .row .ensures, c .before .union .ensures, c .before .before .before .before .pre .0) refl)
+
+pub cell-spec : {M : Type 1} → statement M
+cell-spec = tie.close (tie.spec row-requires union-requires known-requires returns)

@@ -1,0 +1,48 @@
+-- `read` meets its contract. Assumes nothing.
+use mathlib.Core.Path.{refl, sym, _∙_}
+use borrow.Author.Tests.{lt-ltb, le-ltb}
+use Rattle.files.specs.Reading.{answered}
+use Rattle.files.proofs.ReadFiles.{readable}
+use borrow.Author.Needs.{needs}
+use Rattle.files.proofs.read.Statement.{statement}
+use Rattle.files.proofs.read.Tie as tie
+
+judge-requires : tie.Need-judge-requires
+judge-requires c κs = search needs
+
+enum-known-lesson : tie.Need-enum-known-lesson
+enum-known-lesson c = search needs
+
+returns : tie.Need-returns
+unfolding answered
+returns c = (rw (sym (c .before .before .before .before .judge .ensures) ∙ c .before .before .lesson .given .1, lt-ltb _ _ (c .if1 .taken)) refl, refl)
+
+fill-requires : tie.Need-fill-requires
+fill-requires c κs = let R = readable _ _ _ (sym (c .before .before .before .before .before .judge .ensures) ∙ c .before .before .before .lesson .given .1) in (R .count, R .long, c .before .if1 .left)
+
+enum-known-lesson-2 : tie.Need-enum-known-lesson-2
+enum-known-lesson-2 c = search needs
+
+same-length : tie.Need-same-length
+same-length c = search needs
+
+returns-2 : tie.Need-returns-2
+unfolding answered
+returns-2 c = (rw (sym (c .before .before .before .before .before .before .before .before .judge .ensures) ∙ c .before .before .before .before .before .before .lesson .given .1, le-ltb _ _ (c .before .before .before .before .if1 .left)) refl, c .before .before .fill .ensures)
+
+returns-3 : tie.Need-returns-3
+unfolding answered
+returns-3 c = (rw (sym (c .before .before .before .judge .ensures) ∙ c .before .lesson2 .given .1) refl, refl)
+
+pub read-spec : {M : Type 1} → statement M
+read-spec =
+    tie.close
+    (tie.spec
+    judge-requires
+    enum-known-lesson
+    returns
+    fill-requires
+    enum-known-lesson-2
+    same-length
+    returns-2
+    returns-3)

@@ -1,0 +1,35 @@
+-- What a lesson file says (document 01, 'Lesson files').
+use Prim.Native.Nat.{ℕ, zero, _+_, _*_}
+use mathlib.Core.Bool.{cond}
+use mathlib.Core.List.{List}
+use lib.Dec.{eqb}
+use Rattle.files.specs.Bytes.{big, listTo, unionTo}
+
+module _ (file : List ℕ) where
+  -- 'Bytes 0 to 2 are the mark "PVT" (50 56 54), 3 and 4 the version 1, 5 is d, 6 and 7 the row count T.'
+  abbrev pub markIn : ℕ
+  markIn = big file 0 3
+
+  abbrev pub versionIn : ℕ
+  versionIn = big file 3 2
+
+  abbrev pub valuesIn : ℕ
+  valuesIn = big file 5 1
+
+  abbrev pub countIn : ℕ
+  countIn = big file 6 2
+
+  -- 'T rows of 8 bytes follow. Bytes after them are ignored.'
+  abbrev pub rowIn : ℕ → ℕ
+  rowIn i = big file (8 + 8 * i) 8
+
+  -- 'the union of the file's rows that are not zero' (a zero row adds nothing)
+  abbrev pub unionIn : ℕ
+  unionIn = unionTo rowIn countIn
+
+  -- 'A row of eight zero bytes stands for an unknown cell, and is read as the union'
+  unfoldable pub cellIn : ℕ → ℕ
+  cellIn i = cond (eqb (rowIn i) zero) unionIn (rowIn i)
+
+  abbrev pub cellsIn : List ℕ
+  cellsIn = listTo cellIn countIn

@@ -1,0 +1,5 @@
+-- `Bytes`: numbers in bytes. `Files`: what a lesson file says. `Reading`: the refusals, and what `read` leaves. `Turns`: the reader, row by row.
+pub mod Bytes
+pub mod Files
+pub mod Reading
+pub mod Turns

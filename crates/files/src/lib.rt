@@ -1,0 +1,117 @@
+// Lesson files: a table out of bytes, all at once or row by row.
+ghost use mathlib.Core.Path.{_≡_};
+ghost use Prim.Native.Nat.{_≤_, _<_, _+_, _*_};
+ghost use mathlib.Core.Bool.{cond};
+ghost use mathlib.Core.List.{_++_};
+ghost use lib.Dec.{eqb};
+ghost use lib.ListN.{length, drop};
+ghost use Rattle.files.specs.Files.{countIn, cellIn, cellsIn};
+ghost use Rattle.files.specs.Reading.{answered, filled};
+ghost use Rattle.files.specs.Turns.{stepAt};
+
+mod numbers; // numbers.rt: numbers in bytes, and the rows of a file
+mod judge; // judge.rt: refusals 20 to 27
+
+// Why a file is refused, in the order of the refusal numbers.
+pub enum Fault {
+    ShortFile,
+    WrongMark,
+    WrongVersion,
+    BadValues,
+    ManyRows,
+    ShortRows,
+    BadRow(usize),
+    AllUnknown,
+    ShortList,
+}
+
+// A file that is read has d values and T rows.
+pub enum Lesson {
+    Read(usize, usize),
+    Refused(Fault),
+}
+
+// What a reader hands out: a row, or that there are no more.
+pub enum Row {
+    Cell(u64),
+    NoMore,
+}
+
+// A row, and the cursor after it.
+pub struct Step {
+    pub row: Row,
+    pub next: usize,
+}
+
+// A row as it is read: an unknown one stands for all values of the file's rows.
+fn known(row: u64, all: u64) -> u64
+    ensures { λ r. ⌜ r ≡ cond (eqb row 0) all row ⌝ }
+{
+    if row == 0 { all } else { row }
+}
+
+// The cell of row i.
+fn cell(file: &[u8], t: usize, i: usize) -> u64
+    requires { ⌜ (t ≡ countIn (now file)) × (i < t) × (8 + 8 * t ≤ length (now file)) ⌝ }
+    ensures { λ r. ⌜ r ≡ cellIn (now (file .entry)) i ⌝ }
+{
+    let row = numbers::row(file, i);
+    let all = numbers::union(file, t);
+    known(row, all)
+}
+
+// All cells go to the front of the list, which keeps its later places.
+fn fill(file: &[u8], t: usize, rows: &mut [u64])
+    requires { ⌜ (t ≡ countIn (now file)) × (8 + 8 * t ≤ length (now file)) × (t ≤ length (now rows)) ⌝ }
+    ensures { λ _. ⌜ now (rows .exit) ≡ cellsIn (now (file .entry)) ++ drop t (now (rows .entry)) ⌝ }
+{
+    let all = numbers::union(file, t);
+    let mut next: usize = 0;
+    while next < t {
+        let row = numbers::row(file, next);
+        rows[next] = known(row, all);
+        next += 1;
+    }
+}
+
+// A lesson file into a lent list: d and T, or the lowest refusal, with nothing written.
+pub fn read(file: &[u8], rows: &mut [u64]) -> Lesson
+    ensures { λ r. ⌜ (r ≡ answered (now (file .entry)) (length (now (rows .entry)))) × (now (rows .exit) ≡ filled (now (file .entry)) (now (rows .entry)) r) ⌝ }
+{
+    let lesson = judge::judge(file);
+    match lesson {
+        Lesson::Read(d, t) => {
+            if rows.len() < t {
+                return Lesson::Refused(Fault::ShortList);
+            }
+            fill(file, t, rows);
+            Lesson::Read(d, t)
+        }
+        Lesson::Refused(fault) => Lesson::Refused(fault),
+    }
+}
+
+// What stands at a cursor, and where the cursor goes.
+pub fn step_at(file: &[u8], at: usize) -> Step
+    ensures { λ r. ⌜ r ≡ stepAt (now (file .entry)) at ⌝ }
+{
+    let lesson = judge::judge(file);
+    match lesson {
+        Lesson::Read(_, t) => {
+            if at < t {
+                return Step {
+                    row: Row::Cell(cell(file, t, at)),
+                    next: at + 1,
+                };
+            }
+            Step {
+                row: Row::NoMore,
+                next: at,
+            }
+        }
+        Lesson::Refused(_) => Step {
+            row: Row::NoMore,
+            next: at,
+        },
+    }
+}

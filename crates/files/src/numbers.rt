@@ -1,0 +1,60 @@
+// Numbers in bytes, and the rows of a file.
+ghost use mathlib.Core.Path.{_≡_};
+ghost use Prim.Native.Nat.{_≤_, _<_, _+_, _*_};
+ghost use mathlib.Core.Bool.{not};
+ghost use lib.ListN.{length};
+ghost use Rattle.sets.specs.Sets.{below};
+ghost use Rattle.files.specs.Bytes.{big, unionTo, lowestTo};
+ghost use Rattle.files.specs.Files.{rowIn};
+use sets::Found;
+
+// The number in n bytes from a place on, the first byte highest.
+pub fn number(file: &[u8], from: usize, n: usize) -> u64
+    requires { ⌜ (n ≤ 8) × (from + n ≤ length (now file)) ⌝ }
+    ensures { λ r. ⌜ r ≡ big (now (file .entry)) from n ⌝ }
+{
+    let mut value: u64 = 0;
+    let mut next: usize = 0;
+    while next < n {
+        value = value * 256 + file[from + next] as u64;
+        next += 1;
+    }
+    value
+}
+
+// Row i as it stands in the file.
+pub fn row(file: &[u8], i: usize) -> u64
+    requires { ⌜ 16 + 8 * i ≤ length (now file) ⌝ }
+    ensures { λ r. ⌜ r ≡ rowIn (now (file .entry)) i ⌝ }
+{
+    number(file, 8 + 8 * i, 8)
+}
+
+// The values of the first n rows together.
+pub fn union(file: &[u8], n: usize) -> u64
+    requires { ⌜ 8 + 8 * n ≤ length (now file) ⌝ }
+    ensures { λ r. ⌜ r ≡ unionTo (rowIn (now (file .entry))) n ⌝ }
+{
+    let mut all: u64 = 0;
+    let mut next: usize = 0;
+    while next < n {
+        all = all | row(file, next);
+        next += 1;
+    }
+    all
+}
+
+// The lowest of the first n rows that has a value d or above.
+pub fn over(file: &[u8], d: usize, n: usize) -> Found
+    requires { ⌜ 8 + 8 * n ≤ length (now file) ⌝ }
+    ensures { λ r. ⌜ r ≡ lowestTo (λ i. not (below d (rowIn (now (file .entry)) i))) n ⌝ }
+{
+    let mut next: usize = 0;
+    while next < n {
+        if !sets::below(row(file, next), d) {
+            return Found::At(next);
+        }
+        next += 1;
+    }
+    Found::Nothing
+}
