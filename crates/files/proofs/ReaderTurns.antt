@@ -1,12 +1,12 @@
 -- A fresh reader, stepped through a file: it hands out exactly the rows that `read` writes, in order, and then says that there are no more, and keeps saying so. Over a file with any refusal but 28 it says so at once. Assumes nothing.
 use Prim.Native.Nat.{ℕ, zero, suc, _+_, _≤_, _<_}
 use mathlib.Core.Path.{_≡_, refl, sym, ap, _∙_}
-use mathlib.Core.List.{List, [], _∷_, _++_}
-use mathlib.Core.Logic.{inl, inr}
+use mathlib.Core.List.{List, [], _∷_, _++_, append-assoc}
+use native.Mathlib.Nat.{not-suc-le-zero}
 use native.Mathlib.Decide.{ℕ-discrete}
 use native.Mathlib.Numerals.{add-one}
 use native.Mathlib.Omega.{arith}
-use lib.ListN.{length, getD, drop, length-append, List·getD-append}
+use lib.ListN.{length, getD, drop, length-append}
 use lib.Seq.{getD-at}
 use borrow.Author.Tests.{lt-ltb, le-ltb}
 use Rattle.files.specs.declared.Fault.{Fault}
@@ -15,7 +15,7 @@ use Rattle.files.specs.declared.Row.{Row}
 use Rattle.files.specs.declared.Row.the-variants.{Cell, NoMore}
 use Rattle.files.specs.declared.Step.{Step}
 use Rattle.files.specs.Bytes.{listTo}
-use Rattle.files.specs.Files.{cellIn}
+use Rattle.files.specs.Files.{countIn, cellIn}
 use Rattle.files.specs.Reading.{judged, filled}
 use Rattle.files.specs.Turns.{stepAt, cursor, handedOut}
 use Rattle.files.proofs.ReadFiles.{readable}
@@ -28,3 +28,56 @@ length-list f zero = refl
 length-list f (suc n) = let e : length (listTo f n ++ (f n ∷ [])) ≡ length (listTo f n) + 1 = length-append (listTo f n) (f n ∷ []) in omega (arith, length-list f n)
 
 list-at : (f : ℕ → ℕ) (n i : ℕ) (rest : List ℕ) → i < n → getD (listTo f n ++ rest) i zero ≡ f i
+unfolding listTo
+list-at f zero i rest h = absurd (not-suc-le-zero h)
+list-at f (suc n) i rest h = append-assoc-at ∙ (elim (ℕ-discrete i n) [
+  | yes e ↦ rw e (getD-at (listTo f n) (f n) rest zero n (length-list f n))
+  | no ne ↦ list-at f n i (f n ∷ rest) (omega arith)
+])
+  where
+    append-assoc-at : getD ((listTo f n ++ (f n ∷ [])) ++ rest) i zero ≡ getD (listTo f n ++ (f n ∷ rest)) i zero
+    append-assoc-at = ap (λ (l : List ℕ). getD l i zero) (append-assoc (listTo f n) (f n ∷ []) rest)
+
+-- ---- a file that is read
+
+module _ (file : List ℕ) (d t : ℕ) (read : judged file ≡ Read d t) where
+  within : (k : ℕ) → k < t → stepAt file k ≡ record { row = Cell (cellIn file k); next = k + 1 }
+  unfolding stepAt
+  within k h = rw (read, lt-ltb k t h) refl
+
+  past : (k : ℕ) → t ≤ k → stepAt file k ≡ record { row = NoMore; next = k }
+  unfolding stepAt
+  past k h = rw (read, le-ltb k t h) refl
+
+  next : (n : ℕ) → cursor file (suc n) ≡ stepAt file (cursor file n) .next
+  unfolding cursor
+  next n = refl
+
+  -- the cursor counts the rows handed out
+  counts : (n : ℕ) → n ≤ t → cursor file n ≡ n
+  unfolding cursor
+  counts zero h = refl
+  counts (suc n) h = ap (λ (k : ℕ). stepAt file k .next) (counts n (omega arith)) ∙ ap (λ (s : Step). s .next) (within n (omega arith)) ∙ add-one n
+
+  -- and stays once all are
+  stays : (k : ℕ) → cursor file (k + t) ≡ t
+  stays zero = let e : zero + t ≡ t = omega arith in ap (cursor file) e ∙ counts t (omega arith)
+  stays (suc k) =
+      let e : suc k + t ≡ suc (k + t) = omega arith in
+      ap (cursor file) e ∙ next (k + t) ∙ ap (λ (m : ℕ). stepAt file m .next) (stays k) ∙ ap (λ (s : Step). s .next) (past t (omega arith))
+
+  -- step n hands out the row that `read` writes to place n
+  pub rows-in-turn : (rows : List ℕ) (n : ℕ) → n < t → handedOut file n ≡ Cell (getD (filled file rows (Read d t)) n zero)
+  rows-in-turn rows n h =
+      ap (λ (k : ℕ). stepAt file k .row) (counts n (omega arith))
+      ∙ ap (λ (s : Step). s .row) (within n h)
+      ∙ ap Cell (sym (list-at (cellIn file) (countIn file) n (drop t rows) (rw (sym (readable file d t read .count)) h)))
+
+  -- after T steps there are no more rows, however often it is asked
+  pub then-no-more : (k : ℕ) → handedOut file (k + t) ≡ NoMore
+  then-no-more k = ap (λ (m : ℕ). stepAt file m .row) (stays k) ∙ ap (λ (s : Step). s .row) (past t (omega arith))
+
+-- over a refused file there is no row at all, from any cursor
+pub refused-no-rows : (file : List ℕ) (f : Fault) → judged file ≡ Refused f → (k : ℕ) → stepAt file k ≡ record { row = NoMore; next = k }
+unfolding stepAt
+refused-no-rows file f e k = rw e refl

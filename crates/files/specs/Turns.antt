@@ -1,10 +1,11 @@
 -- The reader, row by row: what stands at a cursor, and where the cursor goes (document 01: it 'hands out rows in turn, unknown cells already read, and then says that there are no more; over a file with any refusal but 28 it says that at once').
-use Prim.Native.Nat.{ℕ, _+_}
+use Prim.Native.Nat.{ℕ, zero, suc, _+_}
 use mathlib.Core.Bool.{cond}
 use mathlib.Core.List.{List}
 use lib.Dec.{ltb}
 use Rattle.files.specs.declared.Lesson.{Lesson}
 use Rattle.files.specs.declared.Lesson.the-variants.{Read, Refused}
+use Rattle.files.specs.declared.Row.{Row}
 use Rattle.files.specs.declared.Row.the-variants.{Cell, NoMore}
 use Rattle.files.specs.declared.Step.{Step}
 use Rattle.files.specs.Files.{cellIn}
