@@ -3,11 +3,13 @@ use Prim.Native.Nat.{ℕ, zero, suc, _+_}
 use mathlib.Core.Bool.{cond}
 use mathlib.Core.List.{List}
 use lib.Dec.{ltb}
+use denote.Ref.{now}
 use Rattle.files.specs.declared.Lesson.{Lesson}
 use Rattle.files.specs.declared.Lesson.the-variants.{Read, Refused}
 use Rattle.files.specs.declared.Row.{Row}
 use Rattle.files.specs.declared.Row.the-variants.{Cell, NoMore}
 use Rattle.files.specs.declared.Step.{Step}
+use Rattle.files.specs.declared.reader.Reader.{Reader}
 use Rattle.files.specs.Files.{cellIn}
 use Rattle.files.specs.Reading.{judged}
 
@@ -26,3 +28,7 @@ cursor file (suc n) = stepAt file (cursor file n) .next
 
 abbrev pub handedOut : List ℕ → ℕ → Row
 handedOut file n = stepAt file (cursor file n) .row
+
+-- the same reader, a step further
+abbrev pub moved : Reader → Reader
+moved r = record { file = r .file; at = stepAt (now (r .file)) (r .at) .next }

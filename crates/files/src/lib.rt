@@ -11,6 +11,10 @@ ghost use Rattle.files.specs.Turns.{stepAt};
 
 mod numbers; // numbers.rt: numbers in bytes, and the rows of a file
 mod judge; // judge.rt: refusals 20 to 27
+mod reader; // reader.rt: row by row
+
+pub use reader::Reader;
+pub use reader::take;
 
 // Why a file is refused, in the order of the refusal numbers.
 pub enum Fault {

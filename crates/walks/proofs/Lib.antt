@@ -1,0 +1,3 @@
+-- `Walk`: what proofs by hand cite of the logic. `Lies`: a value in a local, lent and taken back.
+pub mod Walk
+pub mod Lies
