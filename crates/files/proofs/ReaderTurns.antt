@@ -11,7 +11,6 @@ use lib.Seq.{getD-at}
 use borrow.Author.Tests.{lt-ltb, le-ltb}
 use Rattle.files.specs.declared.Fault.{Fault}
 use Rattle.files.specs.declared.Lesson.the-variants.{Read, Refused}
-use Rattle.files.specs.declared.Row.{Row}
 use Rattle.files.specs.declared.Row.the-variants.{Cell, NoMore}
 use Rattle.files.specs.declared.Step.{Step}
 use Rattle.files.specs.Bytes.{listTo}

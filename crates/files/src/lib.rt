@@ -10,6 +10,7 @@ ghost use Rattle.files.specs.Reading.{answered, filled};
 ghost use Rattle.files.specs.Turns.{stepAt};
 
 mod numbers; // numbers.rt: numbers in bytes, and the rows of a file
+pub mod faults; // faults.rt: the refusals by number
 mod judge; // judge.rt: refusals 20 to 27
 mod reader; // reader.rt: row by row
 
@@ -59,9 +60,7 @@ fn cell(file: &[u8], t: usize, i: usize) -> u64
     requires { ⌜ (t ≡ countIn (now file)) × (i < t) × (8 + 8 * t ≤ length (now file)) ⌝ }
     ensures { λ r. ⌜ r ≡ cellIn (now (file .entry)) i ⌝ }
 {
-    let row = numbers::row(file, i);
-    let all = numbers::union(file, t);
-    known(row, all)
+    known(numbers::row(file, i), numbers::union(file, t))
 }
 
 // All cells go to the front of the list, which keeps its later places.

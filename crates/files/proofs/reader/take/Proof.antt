@@ -1,6 +1,6 @@
 -- `take` meets its contract: a walk of its code, by hand. A local reader is made of the slice and the cursor and lent to `Reader::next` for a lifetime made for that call, within the file's own; then it is taken back, and the step is put together of the row and the reader's cursor.
 -- Of `next` only its contract is used. Assumes nothing.
-use Rattle.walks.proofs.Walk.{_≡_, refl, ap, ℕ, _<_, _^_, List, [], _∷_, length, URA, fullShare, PosShare·left, PosShare·right, named, erased, w64, Val, vint, vptr, SProp, ent, emp, via, fst∗, id⊢, GName, Lft, Share, Fml, ftrue, fsep, flft, fdead, fat, flent, Memory, Routine, Heap, Calls, Loops, WpFn, Tables, Atoms, sem, meet-⊑-right, Fun, fact, givenOf, tables, tablesOf, Given, ‵, raw, _⊛_, ⋆, some, later, _$_, _∵_, !, qed, by, move, keep, drop, use1, use2, use3, split, join, pick, rewrite, fsplit, fjoin, fpick, fpack, suffices, frame, await, done, agg, whole, sub, look-in, look, init, forget, stop, fld, from, load, addr, of-opd, and-then, no-more, assigns, land, returns, enter, alloc1, alloc0, params1, pass1, pass0, free1, free0, Body, lft-new, FmC, fmOf, WpFn-mono, Rest, within-token, within-end, RattleType, owns, Is, shows, lends-ref, ref-back, mem, cellAt, partOf, uint-vals, uint-tells, uint-makes, u8, usize, RefT, NamedLft, MutRef, now, plain, namedLft, sliceVal, ShrSlice, slice-vals, shr-slice-tells, shr-slice-lawful, shr-slice-copy, only, owned, peeks, heard, nothing, own-shut, spelt, Contract, Triple, calls-at, ensured, lasts, onEntry, Meets, tripleOf, entered, cited, says, Stays, stay-none-slice, stay-none, walkOf, goes-none-slice, goes-none, Walks, ends-at, walked, walk-meets, yes}
+use Rattle.walks.proofs.Walk.{_≡_, refl, ap, ℕ, _<_, _^_, List, [], _∷_, URA, fullShare, PosShare·left, PosShare·right, named, erased, w64, Val, vint, vptr, SProp, ent, emp, via, fst∗, id⊢, GName, Lft, Share, Fml, ftrue, fsep, flft, fdead, fat, flent, Memory, Routine, Heap, Calls, Loops, WpFn, Tables, Atoms, meet-⊑-right, Fun, fact, givenOf, tables, tablesOf, Given, ‵, raw, _⊛_, ⋆, some, later, _$_, _∵_, !, qed, by, move, keep, drop, use1, use2, use3, split, join, pick, rewrite, fsplit, fjoin, suffices, frame, await, done, agg, whole, sub, look-in, look, init, forget, stop, fld, from, load, addr, of-opd, and-then, no-more, assigns, land, returns, enter, alloc1, alloc0, params1, pass1, pass0, free1, free0, Body, lft-new, FmC, fmOf, WpFn-mono, Rest, within-token, within-end, RattleType, owns, Is, shows, lends-ref, ref-back, mem, cellAt, uint-vals, uint-tells, uint-makes, u8, usize, RefT, NamedLft, MutRef, now, plain, ShrSlice, slice-vals, shr-slice-tells, shr-slice-lawful, shr-slice-copy, only, owned, peeks, heard, nothing, Contract, Triple, calls-at, ensured, lasts, onEntry, Meets, tripleOf, entered, cited, says, Stays, stay-none-slice, stay-none, walkOf, goes-none-slice, goes-none, Walks, ends-at, walked, walk-meets, yes}
 use denote.Enum.Laws as EL
 use denote.Struct.Laws as LL
 use Rattle.files.specs.Turns.{stepAt, moved}

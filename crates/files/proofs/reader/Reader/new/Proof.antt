@@ -1,5 +1,5 @@
 -- `Reader::new` meets its contract: a walk of its code, by hand. The reader is fresh in the result of the slice passed and 0; the slice is Copy, so the caller's stays as it was. Assumes nothing.
-use Rattle.walks.proofs.Walk.{refl, ℕ, List, [], _∷_, length, URA, named, w64, Val, vint, SProp, ent, emp, via, fst∗, Lft, Share, Fml, ftrue, flft, Memory, Routine, Heap, Calls, Loops, WpFn, Tables, Atoms, sem, Fun, givenOf, tables, tablesOf, Given, ‵, _⊛_, ⋆, _$_, _∵_, !, qed, by, move, keep, drop, use1, split, fsplit, fjoin, suffices, frame, done, agg, look, init, forget, stop, from, load, lit, and-then, no-more, assigns, returns, enter, alloc1, alloc0, params1, pass1, pass0, free1, free0, WpFn-mono, RattleType, owns, Is, uint-makes, u8, usize, RefT, NamedLft, plain, namedLft, sliceVal, ShrSlice, slice-vals, shr-slice-tells, shr-slice-lawful, shr-slice-copy, owned, nothing, own-shut, onEntry, Meets, tripleOf, entered, says, Stays, stay-none-slice, walkOf, goes-none-slice, Walks, ends-at, walked, walk-meets, yes, lit<}
+use Rattle.walks.proofs.Walk.{refl, ℕ, List, [], _∷_, URA, named, Val, SProp, ent, emp, via, fst∗, Lft, Share, Fml, ftrue, flft, Memory, Routine, Heap, Calls, Loops, WpFn, Tables, Atoms, Fun, givenOf, tables, tablesOf, Given, ‵, _⊛_, ⋆, _$_, _∵_, !, qed, by, move, keep, use1, split, fsplit, fjoin, suffices, frame, done, agg, look, init, forget, stop, from, load, lit, and-then, no-more, assigns, returns, enter, alloc1, alloc0, params1, pass1, pass0, free1, free0, WpFn-mono, RattleType, owns, Is, u8, RefT, plain, ShrSlice, slice-vals, shr-slice-tells, shr-slice-lawful, shr-slice-copy, nothing, onEntry, Meets, tripleOf, entered, says, Stays, stay-none-slice, walkOf, goes-none-slice, Walks, ends-at, walked, walk-meets, yes, lit<}
 use Rattle.files.specs.declared.reader.Reader.{Reader}
 use Rattle.files.proofs.MadeReader.{machine, ReaderType, made, OwnSlice, made-owns}
 use Rattle.files.proofs.reader.Reader.Laws as T′

@@ -5,7 +5,6 @@ use denote.Enum.Laws as EL
 use denote.Struct.Laws as LL
 use Rattle.files.specs.Turns.{stepAt}
 use Rattle.files.specs.declared.reader.Reader.{Reader}
-use Rattle.files.specs.declared.Row.{Row}
 use Rattle.files.specs.declared.Step.{Step}
 use Rattle.files.proofs.reader.Reader as T
 use Rattle.files.proofs.reader.Reader.Laws as T′
