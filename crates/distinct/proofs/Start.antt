@@ -51,7 +51,7 @@ module _ (d : ℕ) (view : List ℕ) (C : InColumn d view) where
 
   -- the seats before any row is asked
   abbrev start : Seats
-  start = record { d = d; used = zero; entered = zero; free = 2 ^ d - 1; dead = zero; heavy = zero }
+  start = record { d = d; used = zero; entered = zero; free = 2 ^ d - 1; dead = zero; fresh = 2 ^ d - 1; heavy = zero }
 
   bench : (columns : List ℕ) → length columns ≡ 64 → ((v : ℕ) → at columns v ≡ zero) → Bench start [] columns []
   bench columns wide none = record {
@@ -63,6 +63,7 @@ module _ (d : ℕ) (view : List ℕ) (C : InColumn d view) where
     new = λ v t. (has-all d v t, λ s. suc-ne-zero v (sym (s .1)));
     free = λ v h s. all-has d v h;
     shut = λ u t. absurd (not-both t (has-empty u));
+    fresh = λ i v t. absurd (not-both t (has-empty v));
     index = record {
       wide = wide;
       complete = λ i v t. absurd (not-both t (has-empty v));

@@ -25,7 +25,14 @@ fn pair_up(
         let i = next;
         next += 1;
         if keep[i] {
-            seats = pairing::seats::seat(view[i], seats, rows, columns, mates);
+            let row = view[i];
+            if row & seats.free != 0 {
+                seats = pairing::seats::sit_near(row, seats, rows, columns, mates);
+            } else {
+                if !pairing::seats::hopeless(row, seats.free, seats.dead) {
+                    seats = pairing::seats::seek(row, seats, rows, columns, mates);
+                }
+            }
         }
     }
     seats
@@ -54,10 +61,12 @@ fn try_rest(
                 seats = pairing::seats::sit_near(row, seats, rows, columns, mates);
                 keep[i] = true;
             } else {
-                let used = seats.used;
-                seats = pairing::seats::seat(row, seats, rows, columns, mates);
-                if used < seats.used {
-                    keep[i] = true;
+                if !pairing::seats::hopeless(row, seats.free, seats.dead) {
+                    let used = seats.used;
+                    seats = pairing::seats::seek(row, seats, rows, columns, mates);
+                    if used < seats.used {
+                        keep[i] = true;
+                    }
                 }
             }
         }
@@ -73,12 +82,14 @@ pub fn settle(d: usize, view: &[u64], keep: &mut [bool])
     let mut rows = [0u64; 64];
     let mut columns = [0u64; 64];
     let mut mates = [0usize; 64];
+    let all = sets::all(d);
     let start = Seats {
         d,
         used: 0,
         entered: 0,
-        free: sets::all(d),
+        free: all,
         dead: 0,
+        fresh: all,
         heavy: 0,
     };
     let seats = pair_up(view, keep, start, &mut rows, &mut columns, &mut mates);

@@ -2,17 +2,17 @@
 use Prim.Native.Nat.{ℕ, zero, suc, _+_, _≤_, _<_}
 use mathlib.Core.Path.{_≡_, refl, sym, ap, _∙_, subst}
 use mathlib.Core.Logic.{_⊎_, inl, inr}
-use mathlib.Core.Bool.{Bool, true, false, not}
+use mathlib.Core.Bool.{Bool, true, false, not, _&&_}
 use mathlib.Core.List.{List, [], _∷_, _++_}
 use native.Mathlib.Nat.{suc-inj}
 use native.Mathlib.Omega.{arith}
-use lib.Bits.{bitOr}
+use lib.Bits.{bitAnd, bitOr}
 use lib.ListN.{length, set, length-append}
 use lib.Seq.{set-append-seam}
 use borrow.Author.Tests.{not-true}
-use Rattle.sets.specs.Sets.{has, single}
-use Rattle.sets.proofs.Bools.{true-or-false, not-both, is-false}
-use Rattle.sets.proofs.Values.{has-empty, has-same, minus-out}
+use Rattle.sets.specs.Sets.{has, single, minus}
+use Rattle.sets.proofs.Bools.{and-left, and-right, true-or-false, not-both, is-false}
+use Rattle.sets.proofs.Values.{has-empty, has-and, has-same, minus-in, minus-out}
 use Rattle.theory.specs.Pairings.{size, at, In, Seated, Largest}
 use Rattle.theory.specs.Search.{Heard}
 use Rattle.theory.proofs.Places.{not-mate, past, seated?}
@@ -103,7 +103,18 @@ module _ (s : Seats) (R columns p : List ℕ) (B : Bench s R columns p) where
 
     -- ---- the row gets a seat
 
-    pub bench-more : (v : ℕ) → has (s .free) v ≡ true → (p′ : List ℕ) → Grown (R ++ row ∷ []) v (p ++ zero ∷ []) p′ → Bench (taking s v) (R ++ row ∷ []) columns p′
+    -- a fresh value that the new row does not hold is held by none
+    unheld : (i v : ℕ) → has (at (R ++ row ∷ []) i) v ≡ true → has (s .fresh) v ≡ true → has row v ≡ false → ⊥
+    unheld i v h f n = elim (holds-cases R row i v h) [ inl b ↦ not-both f (B .fresh i v (b .1)) | inr e ↦ not-both (e .1) n ]
+
+    -- a fresh value of the row is free: it is no row's mate
+    pub fresh-free : Inside (bitAnd row (s .fresh)) (s .free)
+    fresh-free v t =
+        let both : (has row v && has (s .fresh) v) ≡ true = sym (has-and row (s .fresh) v) ∙ t in
+        B .free v (low v (and-left (has row v) (has (s .fresh) v) both)) (λ q.
+        not-both (and-right (has row v) (has (s .fresh) v) both) (B .fresh (q .0) v (B .pairing .holds (q .0) v (q .1) .1)))
+
+    pub bench-more : (v : ℕ) → has (s .free) v ≡ true → (p′ : List ℕ) → Grown (R ++ row ∷ []) v (p ++ zero ∷ []) p′ → Bench (taking s row v) (R ++ row ∷ []) columns p′
     bench-more v t p′ G = record {
       used = let e : length (R ++ row ∷ []) ≡ length R + 1 = length-append R (row ∷ []) in omega (arith, B .used);
       column = B .column;
@@ -123,6 +134,7 @@ module _ (s : Seats) (R columns p : List ℕ) (B : Bench s R columns p) where
         | inr m ↦ m
       ];
       shut = G .shut (s .dead) (shut-open R row p (s .dead) (B .pairing) (B .shut)) (free-alive v t);
+      fresh = λ i u h. is-false (has (minus (s .fresh) row) u) (λ e. let k = minus-out (s .fresh) row u e in unheld i u h (k .0) (k .1));
       index = subst (λ (n : ℕ). Index (R ++ row ∷ []) columns (bitOr (s .heavy) (single n))) (B .used) (index-open R row columns (s .heavy) (B .index));
     }
 
@@ -157,6 +169,26 @@ module _ (s : Seats) (R columns p : List ℕ) (B : Bench s R columns p) where
         put : set (p ++ zero ∷ []) (length R) (v + 1) ≡ p ++ (v + 1) ∷ []
         put = ap (λ (n : ℕ). set (p ++ zero ∷ []) n (v + 1)) (sym (B .pairing .fits)) ∙ set-append-seam p zero [] (v + 1)
 
+    -- ---- a search from the free values but those that no row holds
+
+    abbrev from : ℕ
+    from = minus (s .free) (minus (s .fresh) row)
+
+    pub search-part : {rows columns′ p₀ : List ℕ} {heavy′ : ℕ} → Searches (s .free) rows columns′ heavy′ p₀ → Searches from rows columns′ heavy′ p₀
+    search-part S = record { few = S .few; index = S .index; pairing = S .pairing; new = λ v t. S .new v (minus-out (s .free) (minus (s .fresh) row) v t .0) }
+
+    -- is one from all of them
+    pub search-all : {r : ℕ} {p₀ p′ : List ℕ} {asked : ℕ} → OfSearch r from (R ++ row ∷ []) p₀ p′ asked → OfSearch r (s .free) (R ++ row ∷ []) p₀ p′ asked
+    search-all {r} {p₀} {p′} {asked} O = record {
+      found = λ h. let k = O .found h in (minus-out (s .free) (minus (s .fresh) row) r (k .0) .0, k .1);
+      still = O .still;
+      closed = O .closed;
+      heard = λ h v t. elim (true-or-false (has (minus (s .fresh) row) v)) [
+        | inl e ↦ λ j inn. let k = minus-out (s .fresh) row v e in absurd (unheld j v (inn .1) (k .0) (k .1))
+        | inr n ↦ O .heard h v (minus-in (s .free) (minus (s .fresh) row) v t n)
+      ];
+    }
+
     -- ---- a search has failed
 
     module _ (r : ℕ) (p′ : List ℕ) (asked dead′ : ℕ) (O : OfSearch r (s .free) (R ++ row ∷ []) (p ++ zero ∷ []) p′ asked) (none : 64 ≤ r) (D : Unreached asked p dead′) where
@@ -187,6 +219,6 @@ module _ (s : Seats) (R columns p : List ℕ) (B : Bench s R columns p) where
 
   -- the same seats, with another index and other dead values
   pub bench-other : (columns′ : List ℕ) (entered′ heavy′ dead′ : ℕ) → Index R columns′ heavy′ → Shut R p dead′
-      → Bench (record { d = s .d; used = s .used; entered = entered′; free = s .free; dead = dead′; heavy = heavy′ }) R columns′ p
+      → Bench (record { d = s .d; used = s .used; entered = entered′; free = s .free; dead = dead′; fresh = s .fresh; heavy = heavy′ }) R columns′ p
   bench-other columns′ entered′ heavy′ dead′ X S =
-      record { used = B .used; column = B .column; pairing = B .pairing; full = B .full; small = B .small; new = B .new; free = B .free; shut = S; index = X }
+      record { used = B .used; column = B .column; pairing = B .pairing; full = B .full; small = B .small; new = B .new; free = B .free; shut = S; fresh = B .fresh; index = X }

@@ -11,7 +11,7 @@ use lib.Bits.{bitAnd, bitOr, and-le-l}
 use lib.Count.{trailingZeros}
 use lib.ListN.{length, set, take, drop, length-set, length-append, length-drop}
 use lib.Seq.{take-suc-set, take-set-le, length-take-le, take-at}
-use Rattle.sets.specs.Sets.{has, single}
+use Rattle.sets.specs.Sets.{has, single, minus}
 use Rattle.sets.proofs.Bools.{and-left, and-right, not-both}
 use Rattle.sets.proofs.Extremes.{lowest-has}
 use Rattle.sets.proofs.Values.{has-and, has-empty}
@@ -21,7 +21,7 @@ use Rattle.theory.proofs.Places.{mate?}
 use Rattle.pairing.specs.declared.seats.Seats.{Seats}
 use Rattle.pairing.specs.Asking.{Inside, Index, Searches, Grown, OfSearch}
 use Rattle.pairing.specs.Seats.{Mates, Unreached, Below, Bench, Sitting, taking, OfSeat}
-use Rattle.pairing.proofs.Benches.{seat-left, bench-more, bench-searches, bench-direct, failed-shut, failed-row, bench-other}
+use Rattle.pairing.proofs.Benches.{seat-left, bench-more, bench-searches, bench-direct, search-part, search-all, failed-shut, failed-row, bench-other}
 
 module _ (row : ℕ) (s : Seats) (rows columns mates : List ℕ) (S : Sitting s rows columns mates) where
   -- the rows that sit, and their mates
@@ -51,15 +51,15 @@ module _ (row : ℕ) (s : Seats) (rows columns mates : List ℕ) (S : Sitting s 
 
     -- the row has got the next seat, and the rows the mates p′
     seat-more : (s₁ : Seats) (columns′ : List ℕ) (v : ℕ) (p′ mates′ : List ℕ) → s₁ .used ≡ s .used → s₁ .d ≡ s .d → Bench s₁ R columns′ p → has (s₁ .free) v ≡ true → Grown (R ++ row ∷ []) v (p ++ zero ∷ []) p′
-        → length mates′ ≡ 64 → take (s .used + 1) mates′ ≡ p′ → OfSeat row s rows (taking s₁ v) (set rows (s .used) row) columns′ mates′
+        → length mates′ ≡ 64 → take (s .used + 1) mates′ ≡ p′ → OfSeat row s rows (taking s₁ row v) (set rows (s .used) row) columns′ mates′
     seat-more s₁ columns′ v p′ mates′ same-used same-d B t G wide is = record {
       sits = record {
         rows-wide = length-set rows (s .used) row ∙ S .rows-wide;
         mates-wide = wide;
         few = omega (arith, same-used, room);
         bench =
-            subst (λ (l : List ℕ). Bench (taking s₁ v) l columns′ (take (s₁ .used + 1) mates′)) (sym rows-now)
-            (subst (Bench (taking s₁ v) (R ++ row ∷ []) columns′) (sym mates-now) (bench-more s₁ R columns′ p B row (subst (λ (n : ℕ). Below n row) (sym same-d) low) v t p′ G));
+            subst (λ (l : List ℕ). Bench (taking s₁ row v) l columns′ (take (s₁ .used + 1) mates′)) (sym rows-now)
+            (subst (Bench (taking s₁ row v) (R ++ row ∷ []) columns′) (sym mates-now) (bench-more s₁ R columns′ p B row (subst (λ (n : ℕ). Below n row) (sym same-d) low) v t p′ G));
       };
       column = same-d;
       either = inr (record { used = ap (λ (n : ℕ). n + 1) same-used; rows-more = rows-now });
@@ -72,7 +72,7 @@ module _ (row : ℕ) (s : Seats) (rows columns mates : List ℕ) (S : Sitting s 
         mates-now = ap (λ (n : ℕ). take (n + 1) mates′) same-used ∙ is
 
     -- it takes a free value at once
-    pub seat-direct : (v : ℕ) → has (s .free) v ≡ true → has row v ≡ true → OfSeat row s rows (taking s v) (set rows (s .used) row) columns (set mates (s .used) (v + 1))
+    pub seat-direct : (v : ℕ) → has (s .free) v ≡ true → has row v ≡ true → OfSeat row s rows (taking s row v) (set rows (s .used) row) columns (set mates (s .used) (v + 1))
     seat-direct v t h =
         seat-more s columns v (p ++ (v + 1) ∷ []) (set mates (s .used) (v + 1)) refl refl (S .bench) t (bench-direct s R columns p (S .bench) row low v t h)
         (length-set mates (s .used) (v + 1) ∙ S .mates-wide) (mates-put (v + 1))
@@ -82,22 +82,23 @@ module _ (row : ℕ) (s : Seats) (rows columns mates : List ℕ) (S : Sitting s 
     pub seek-index : (length (take (s .used) (set rows (s .used) row)) ≤ 64) × Index (take (s .used) (set rows (s .used) row)) columns (s .heavy)
     seek-index = (omega (arith, ap length rows-old, S .bench .used), subst (λ (l : List ℕ). Index l columns (s .heavy)) (sym rows-old) (S .bench .index))
 
-    module _ (columns′ : List ℕ) (heavy′ : ℕ) (X : Index (take (s .used) (set rows (s .used) row)) columns′ heavy′) where
+    module _ (columns′ : List ℕ) (heavy′ : ℕ) (X : Index (take (s .used) (set rows (s .used) row)) columns′ heavy′) (from : ℕ) (is : from ≡ minus (s .free) (minus (s .fresh) row)) where
       index : Index R columns′ heavy′
       index = subst (λ (l : List ℕ). Index l columns′ heavy′) rows-old X
 
       -- the seats with the new index
       abbrev s₁ : ℕ → Seats
-      s₁ dead = record { d = s .d; used = s .used; entered = s .used; free = s .free; dead = dead; heavy = heavy′ }
+      s₁ dead = record { d = s .d; used = s .used; entered = s .used; free = s .free; dead = dead; fresh = s .fresh; heavy = heavy′ }
 
-      pub seek-searches : Searches (s .free) (take (s .used + 1) (set rows (s .used) row)) columns′ (bitOr heavy′ (single (s .used))) (take (s .used + 1) (set mates (s .used) zero))
+      pub seek-searches : Searches from (take (s .used + 1) (set rows (s .used) row)) columns′ (bitOr heavy′ (single (s .used))) (take (s .used + 1) (set mates (s .used) zero))
       seek-searches =
-          subst (λ (l : List ℕ). Searches (s .free) l columns′ (bitOr heavy′ (single (s .used))) (take (s .used + 1) (set mates (s .used) zero))) (sym rows-put)
-          (subst (Searches (s .free) (R ++ row ∷ []) columns′ (bitOr heavy′ (single (s .used)))) (sym (mates-put zero))
-          (subst (λ (n : ℕ). Searches (s .free) (R ++ row ∷ []) columns′ (bitOr heavy′ (single n)) (p ++ zero ∷ [])) (S .bench .used)
-          (bench-searches s R columns p (S .bench) row low columns′ heavy′ (omega (arith, S .bench .used)) index)))
+          subst (λ (l : List ℕ). Searches from l columns′ (bitOr heavy′ (single (s .used))) (take (s .used + 1) (set mates (s .used) zero))) (sym rows-put)
+          (subst (Searches from (R ++ row ∷ []) columns′ (bitOr heavy′ (single (s .used)))) (sym (mates-put zero))
+          (subst (λ (n : ℕ). Searches from (R ++ row ∷ []) columns′ (bitOr heavy′ (single n)) (p ++ zero ∷ [])) (S .bench .used)
+          (subst (λ (f : ℕ). Searches f (R ++ row ∷ []) columns′ (bitOr heavy′ (single (length R))) (p ++ zero ∷ [])) (sym is)
+          (search-part s R columns p (S .bench) row low (bench-searches s R columns p (S .bench) row low columns′ heavy′ (omega (arith, S .bench .used)) index)))))
 
-      module _ (v : ℕ) (p′ : List ℕ) (asked : ℕ) (O : OfSearch v (s .free) (take (s .used + 1) (set rows (s .used) row)) (take (s .used + 1) (set mates (s .used) zero)) p′ asked)
+      module _ (v : ℕ) (p′ : List ℕ) (asked : ℕ) (O : OfSearch v from (take (s .used + 1) (set rows (s .used) row)) (take (s .used + 1) (set mates (s .used) zero)) p′ asked)
           (long : length p′ ≡ s .used + 1) where
         -- the mates when the search is over
         abbrev mates′ : List ℕ
@@ -107,9 +108,12 @@ module _ (row : ℕ) (s : Seats) (rows columns mates : List ℕ) (S : Sitting s 
         seek-long = omega (arith, length-append p′ (drop (s .used + 1) (set mates (s .used) zero)), length-drop (s .used + 1) (set mates (s .used) zero), length-set mates (s .used) zero, S .mates-wide, long)
 
         plain : OfSearch v (s .free) (R ++ row ∷ []) (p ++ zero ∷ []) p′ asked
-        plain = subst (λ (l : List ℕ). OfSearch v (s .free) l (p ++ zero ∷ []) p′ asked) rows-put (subst (λ (l : List ℕ). OfSearch v (s .free) (take (s .used + 1) (set rows (s .used) row)) l p′ asked) (mates-put zero) O)
+        plain =
+            search-all s R columns p (S .bench) row low
+            (subst (λ (f : ℕ). OfSearch v f (R ++ row ∷ []) (p ++ zero ∷ []) p′ asked) is
+            (subst (λ (l : List ℕ). OfSearch v from l (p ++ zero ∷ []) p′ asked) rows-put (subst (λ (l : List ℕ). OfSearch v from (take (s .used + 1) (set rows (s .used) row)) l p′ asked) (mates-put zero) O)))
 
-        pub seek-found : v < 64 → OfSeat row s rows (taking (s₁ (s .dead)) v) (set rows (s .used) row) columns′ mates′
+        pub seek-found : v < 64 → OfSeat row s rows (taking (s₁ (s .dead)) row v) (set rows (s .used) row) columns′ mates′
         seek-found h =
             let k = plain .found h in
             seat-more (s₁ (s .dead)) columns′ v p′ mates′ refl refl (bench-other s R columns p (S .bench) columns′ (s .used) heavy′ (s .dead) index (S .bench .shut)) (k .0) (k .1) seek-long
@@ -147,7 +151,7 @@ module _ (row : ℕ) (s : Seats) (rows columns mates : List ℕ) (S : Sitting s 
               plain-dead : Unreached asked p dead
               plain-dead = subst (λ (l : List ℕ). Unreached asked l dead) mates-old D
 
--- the lowest value that the row and the free values have in common
+-- the lowest value that the row has in common with others
 pub near-value : (row free v : ℕ) → row < 2 ^ 64 → v ≡ trailingZeros 64 (bitAnd row free) → bitAnd row free ≢ zero → (v < 64) × (has free v ≡ true) × (has row v ≡ true)
 near-value row free v word is some = go (lowest-has 64 (bitAnd row free) (omega (arith, and-le-l row free)) some)
   where

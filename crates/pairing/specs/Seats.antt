@@ -1,8 +1,8 @@
 -- What the contracts of the seats speak of.
 use Prim.Native.Nat.{ℕ, zero, suc, _+_, _≤_, _<_}
 use mathlib.Core.Path.{_≡_}
-use mathlib.Core.Logic.{_⊎_}
-use mathlib.Core.Bool.{true, false}
+use mathlib.Core.Logic.{_≢_, _⊎_}
+use mathlib.Core.Bool.{Bool, true, false}
 use mathlib.Core.List.{List, [], _∷_, _++_}
 use lib.Bits.{bitOr}
 use lib.ListN.{length, take}
@@ -42,6 +42,7 @@ pub record Bench (s : Seats) (R columns p : List ℕ) : Type 0 where
   pub new : (v : ℕ) → has (s .free) v ≡ true → (v < s .d) × (Seated p v → ⊥)
   pub free : (v : ℕ) → v < s .d → (Seated p v → ⊥) → has (s .free) v ≡ true
   pub shut : Shut R p (s .dead)
+  pub fresh : (i v : ℕ) → has (at R i) v ≡ true → has (s .fresh) v ≡ false
   pub index : Index R columns (s .heavy)
 
 -- the seats in use are the first of 64
@@ -52,8 +53,9 @@ pub record Sitting (s : Seats) (rows columns mates : List ℕ) : Type 0 where
   pub bench : Bench s (take (s .used) rows) columns (take (s .used) mates)
 
 -- v has got a row, and the new row a seat
-abbrev pub taking : Seats → ℕ → Seats
-taking s v = record { d = s .d; used = s .used + 1; entered = s .entered; free = minus (s .free) (single v); dead = s .dead; heavy = bitOr (s .heavy) (single (s .used)) }
+abbrev pub taking : Seats → ℕ → ℕ → Seats
+taking s row v =
+    record { d = s .d; used = s .used + 1; entered = s .entered; free = minus (s .free) (single v); dead = s .dead; fresh = minus (s .fresh) row; heavy = bitOr (s .heavy) (single (s .used)) }
 
 -- the row has got no seat: it holds dead values only, or no value is free
 pub record Passed (row : ℕ) (s : Seats) (rows : List ℕ) (s′ : Seats) (rows′ : List ℕ) : Type 0 where
@@ -66,8 +68,13 @@ pub record Raised (row : ℕ) (s : Seats) (rows : List ℕ) (s′ : Seats) (rows
   pub used : s′ .used ≡ s .used + 1
   pub rows-more : take (s′ .used) rows′ ≡ take (s .used) rows ++ row ∷ []
 
--- what `seat` answers
+-- what a row is answered that is asked for a seat
 pub record OfSeat (row : ℕ) (s : Seats) (rows : List ℕ) (s′ : Seats) (rows′ columns′ mates′ : List ℕ) : Type 0 where
   pub sits : Sitting s′ rows′ columns′ mates′
   pub column : s′ .d ≡ s .d
   pub either : Passed row s rows s′ rows′ ⊎ Raised row s rows s′ rows′
+
+-- r answers whether a row is passed over without a search
+pub record Hopeless (r : Bool) (row free dead : ℕ) : Type 0 where
+  pub why : r ≡ true → Inside row dead ⊎ (free ≡ zero)
+  pub some : r ≡ false → free ≢ zero

@@ -1,23 +1,26 @@
 // The rows that have mates sit on 64 seats, in the order in which they got one: a row that has a mate once has one for good, though not always the same.
-// A row more is put in where that makes the pairing larger.
+// A row more is put in where that makes the pairing larger: it takes a free value that it holds, or is hopeless, or seeks.
 ghost use mathlib.Core.Path.{_≡_};
 ghost use mathlib.Core.Logic.{_≢_};
+ghost use mathlib.Core.Bool.{true};
 ghost use lib.Bits.{bitAnd};
 ghost use Prim.Native.Nat.{_<_, _≤_};
 ghost use lib.ListN.{length};
 ghost use Rattle.sets.specs.Sets.{has};
-ghost use Rattle.pairing.specs.Asking.{Index};
-ghost use Rattle.pairing.specs.Seats.{Entered, Mates, Unreached, Below, Sitting, taking, OfSeat};
+ghost use Rattle.pairing.specs.Asking.{Inside, Index};
+ghost use Rattle.pairing.specs.Seats.{Entered, Mates, Unreached, Below, Sitting, taking, OfSeat, Hopeless};
 use crate::search::search;
 
 // Beside the seats' rows, columns and mates: `d` is how many values the column has, `free` the values below d that have no row,
-// `dead` values that never come free again, `heavy` the seats that stand in no column, and those before `entered` are as they should be.
+// `dead` values that never come free again, `fresh` the values that no row on a seat holds,
+// `heavy` the seats that stand in no column, and those before `entered` are as they should be.
 pub struct Seats {
     pub d: usize,
     pub used: usize,
     pub entered: usize,
     pub free: u64,
     pub dead: u64,
+    pub fresh: u64,
     pub heavy: u64,
 }
 
@@ -74,9 +77,9 @@ fn unreached(asked: u64, mates: &[usize]) -> u64
 }
 
 // The seats when the value v has got a row, and the new row a seat.
-fn taken(s: Seats, v: usize) -> Seats
+fn taken(s: Seats, row: u64, v: usize) -> Seats
     requires { ⌜ (v < 64) × (s .used < 64) ⌝ }
-    ensures { λ r. ⌜ r ≡ taking s v ⌝ }
+    ensures { λ r. ⌜ r ≡ taking s row v ⌝ }
 {
     Seats {
         d: s.d,
@@ -84,12 +87,14 @@ fn taken(s: Seats, v: usize) -> Seats
         entered: s.entered,
         free: sets::without(s.free, v),
         dead: s.dead,
+        fresh: sets::minus(s.fresh, row),
         heavy: sets::with(s.heavy, s.used),
     }
 }
 
-// The row holds no value that is free: a search decides whether it gets a seat. If not, the values that no question reached never come free again.
-fn seek(row: u64, s: Seats, rows: &mut [u64], columns: &mut [u64], mates: &mut [usize]) -> Seats
+// A search decides whether the row gets a seat. If not, the values that no question reached never come free again.
+// A free value that no row holds would ask in vain, so the search starts from the others.
+pub fn seek(row: u64, s: Seats, rows: &mut [u64], columns: &mut [u64], mates: &mut [usize]) -> Seats
     requires { ⌜ (s .used < 64) × Sitting s (now rows) (now columns) (now mates) × Below (s .d) row ⌝ }
     ensures { λ r. ⌜ OfSeat row s (now (rows .entry)) r (now (rows .exit)) (now (columns .exit)) (now (mates .exit)) ⌝ }
 {
@@ -98,9 +103,10 @@ fn seek(row: u64, s: Seats, rows: &mut [u64], columns: &mut [u64], mates: &mut [
     mates[used] = 0;
     let heavy = enter_light(s.entered, s.heavy, &rows[..used], columns);
     let end = used + 1;
+    let from = sets::minus(s.free, sets::minus(s.fresh, row));
     let mut asked: u64 = 0;
     let v = search(
-        s.free,
+        from,
         &rows[..end],
         columns,
         sets::with(heavy, used),
@@ -115,8 +121,10 @@ fn seek(row: u64, s: Seats, rows: &mut [u64], columns: &mut [u64], mates: &mut [
                 entered: used,
                 free: s.free,
                 dead: s.dead,
+                fresh: s.fresh,
                 heavy,
             },
+            row,
             v,
         );
     }
@@ -127,8 +135,21 @@ fn seek(row: u64, s: Seats, rows: &mut [u64], columns: &mut [u64], mates: &mut [
         entered: used,
         free: s.free,
         dead,
+        fresh: s.fresh,
         heavy,
     }
+}
+
+// The free value that a row takes: one that no row on a seat holds, where there is one, for such a row may want the others.
+fn near(row: u64, free: u64, fresh: u64) -> usize
+    requires { ⌜ (bitAnd row free ≢ 0) × Inside (bitAnd row fresh) free ⌝ }
+    ensures { λ r. ⌜ (r < 64) × (has free r ≡ true) × (has row r ≡ true) ⌝ }
+{
+    let new = row & fresh;
+    if new != 0 {
+        return sets::lowest(new);
+    }
+    sets::lowest(row & free)
 }
 
 // The row holds a value that is free, and takes it.
@@ -143,26 +164,18 @@ pub fn sit_near(
     ensures { λ r. ⌜ OfSeat row s (now (rows .entry)) r (now (rows .exit)) (now (columns .exit)) (now (mates .exit)) × (s .used < r .used) ⌝ }
 {
     let used = s.used;
-    let v = sets::lowest(row & s.free);
+    let v = near(row, s.free, s.fresh);
     rows[used] = row;
     mates[used] = v + 1;
-    taken(s, v)
+    taken(s, row, v)
 }
 
-// The row gets a seat where that makes the pairing larger: then one seat more is used.
-pub fn seat(row: u64, s: Seats, rows: &mut [u64], columns: &mut [u64], mates: &mut [usize]) -> Seats
-    requires { ⌜ Sitting s (now rows) (now columns) (now mates) × Below (s .d) row ⌝ }
-    ensures { λ r. ⌜ OfSeat row s (now (rows .entry)) r (now (rows .exit)) (now (columns .exit)) (now (mates .exit)) ⌝ }
+// A row that need not seek: no value is free, or the row holds dead values only.
+pub fn hopeless(row: u64, free: u64, dead: u64) -> bool
+    ensures { λ r. ⌜ Hopeless r row free dead ⌝ }
 {
-    let free = s.free;
-    if row & free != 0 {
-        return sit_near(row, s, rows, columns, mates);
-    }
     if free == 0 {
-        return s;
+        return true;
     }
-    if sets::subset(row, s.dead) {
-        return s;
-    }
-    seek(row, s, rows, columns, mates)
+    sets::subset(row, dead)
 }

@@ -33,7 +33,7 @@ pair-up-requires c κs =
     let m = c .before .before .before .before .before .before .before .mark-minimal in
     let long = m .kept .1 .0 ∙ e .pre .1 in (
       long,
-      subst (λ (free : ℕ). Pairs (e .args .view .now) (before 0 (m .last .1 .0)) (record { d = e .args .d; used = 0; entered = 0; free = free; dead = 0; heavy = 0 }) (replicate 64 0) (replicate 64 0) (replicate 64 0)) (sym (c .before .before .before .before .all .ensures))
+      subst (λ (free : ℕ). Pairs (e .args .view .now) (before 0 (m .last .1 .0)) (record { d = e .args .d; used = 0; entered = 0; free = free; dead = 0; fresh = free; heavy = 0 }) (replicate 64 0) (replicate 64 0) (replicate 64 0)) (sym (c .before .before .before .before .all .ensures))
           (pairs-start (e .args .d) (e .args .view .now) (e .pre .3) (m .last .1 .0) long),
     )
 

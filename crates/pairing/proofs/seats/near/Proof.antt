@@ -1,0 +1,32 @@
+-- `near` meets its contract. Assumes nothing.
+use mathlib.Core.Path.{_∙_}
+use Rattle.sets.specs.Sets.{has}
+use Rattle.sets.proofs.Bools.{and-both}
+use Rattle.sets.proofs.Values.{has-and}
+use Rattle.pairing.proofs.SeatSteps.{near-value}
+use borrow.Author.Needs.{needs}
+use Rattle.pairing.proofs.seats.near.Statement.{statement}
+use Rattle.pairing.proofs.seats.near.Tie as tie
+use Rattle.pairing.proofs.seats.near.Reads as reads
+use Rattle.pairing.proofs.seats.near.Lts as lts
+use Rattle.sets.proofs.lowest.Reads as lowest-reads
+
+lowest-requires : tie.Need-lowest-requires
+lowest-requires c κs = search needs
+
+returns : tie.Need-returns
+returns c =
+    let e = c .before .before in
+    let t = near-value (e .args .row) (e .args .fresh) (c .lowest .result) (e .fits .row .fits) (c .lowest .ensures) (c .before .if1 .taken) in
+    (t .0, e .pre .1 (c .lowest .result) (has-and (e .args .row) (e .args .fresh) (c .lowest .result) ∙ and-both (has (e .args .row) (c .lowest .result)) (has (e .args .fresh) (c .lowest .result)) (t .2) (t .1)), t .2)
+
+lowest-requires-2 : tie.Need-lowest-requires-2
+lowest-requires-2 c κs = search needs
+
+returns-2 : tie.Need-returns-2
+returns-2 c =
+    let e = c .before .before in
+    near-value (e .args .row) (e .args .free) (c .lowest2 .result) (e .fits .row .fits) (c .lowest2 .ensures) (e .pre .0)
+
+pub near-spec : {M : Type 1} → statement M
+near-spec = tie.close (tie.spec lowest-requires returns lowest-requires-2 returns-2)
