@@ -74,11 +74,11 @@ module _ (d : ℕ) (view : List ℕ) (C : InColumn d view) where
       size-nil : size [] ≡ zero
       size-nil = omega (arith, size-by-rows [])
 
-  pub pairs-start : (ms : List Bool) → length ms ≡ length view → Pairs view (before zero ms) start (replicate 64 zero) (replicate 64 zero) (replicate 64 zero)
-  pairs-start ms long = record {
+  pub pairs-start : (ms : List Bool) (rows mates : List ℕ) → length ms ≡ length view → length rows ≡ 64 → length mates ≡ 64 → Pairs view (before zero ms) start rows (replicate 64 zero) mates
+  pairs-start ms rows mates long rows-wide mates-wide = record {
     sits = record {
-      rows-wide = length-replicate 64 zero;
-      mates-wide = length-replicate 64 zero;
+      rows-wide = rows-wide;
+      mates-wide = mates-wide;
       few = omega arith;
       bench = bench (replicate 64 zero) (length-replicate 64 zero) (at-zeros 64);
     };

@@ -16,6 +16,11 @@ pub record InColumn (d : ℕ) (rows : List ℕ) : Type 0 where
   pub column : d ≤ 64
   pub rows-within : (i : ℕ) → i < length rows → within d (at rows i) ≡ true
 
+-- places for each row of the view, and for 64 seats
+pub record Places (view places : List ℕ) : Type 0 where
+  pub rows : length view ≤ length places
+  pub seats : 64 ≤ length places
+
 -- the marks before place n, and none from there on
 unfoldable pub before : ℕ → List Bool → List Bool
 before n [] = []

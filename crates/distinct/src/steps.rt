@@ -4,7 +4,7 @@ ghost use Prim.Native.Nat.{_≤_};
 ghost use lib.ListN.{length};
 ghost use Rattle.theory.specs.Kept.{marks, tries};
 ghost use Rattle.minimal.specs.Marking.{NoMarks};
-ghost use Rattle.distinct.specs.Steps.{InColumn, before, Pairs};
+ghost use Rattle.distinct.specs.Steps.{InColumn, Places, before, Pairs};
 use pairing::seats::Seats;
 
 // The marked rows get seats, in view order: a largest pairing of them.
@@ -73,15 +73,12 @@ fn try_rest(
     }
 }
 
-// The rows that DISTINCT keeps are marked.
-pub fn settle(d: usize, view: &[u64], keep: &mut [bool])
-    requires { ⌜ (length (now view) ≤ 320) × (length (now keep) ≡ length (now view)) × NoMarks (now keep) × InColumn d (now view) ⌝ }
-    ensures { λ _. ⌜ now (keep .exit) ≡ marks d (now (view .entry)) ⌝ }
+// The second step: the marked rows get seats first, then the others are tried. `rows` and `mates` are the seats' places.
+fn second_step(d: usize, view: &[u64], keep: &mut [bool], rows: &mut [u64], mates: &mut [usize])
+    requires { ⌜ (length (now keep) ≡ length (now view)) × InColumn d (now view) × (length (now rows) ≡ 64) × (length (now mates) ≡ 64) ⌝ }
+    ensures { λ _. ⌜ now (keep .exit) ≡ tries 64 (now (view .entry)) (length (now (view .entry))) 0 (now (keep .entry)) ⌝ }
 {
-    minimal::mark_minimal(view, keep);
-    let mut rows = [0u64; 64];
     let mut columns = [0u64; 64];
-    let mut mates = [0usize; 64];
     let all = sets::all(d);
     let start = Seats {
         d,
@@ -92,6 +89,32 @@ pub fn settle(d: usize, view: &[u64], keep: &mut [bool])
         fresh: all,
         heavy: 0,
     };
-    let seats = pair_up(view, keep, start, &mut rows, &mut columns, &mut mates);
-    try_rest(view, keep, seats, &mut rows, &mut columns, &mut mates);
+    let seats = pair_up(view, keep, start, rows, &mut columns, mates);
+    try_rest(view, keep, seats, rows, &mut columns, mates);
+}
+
+// Both steps. `rows` and `mates` are scratch places in the first, and so need not be made ready for the second.
+fn both_steps(d: usize, view: &[u64], keep: &mut [bool], rows: &mut [u64], mates: &mut [usize])
+    requires { ⌜ (length (now view) ≤ 320) × (length (now keep) ≡ length (now view)) × NoMarks (now keep) × InColumn d (now view) ⌝ }
+    requires { ⌜ Places (now view) (now rows) × Places (now view) (now mates) ⌝ }
+    ensures { λ _. ⌜ now (keep .exit) ≡ marks d (now (view .entry)) ⌝ }
+{
+    minimal::mark_minimal(view, keep, mates, rows);
+    second_step(d, view, keep, &mut rows[..64], &mut mates[..64]);
+}
+
+// The rows that DISTINCT keeps are marked. Few places are made ready for a small view: for many that would take longer than the steps.
+pub fn settle(d: usize, view: &[u64], keep: &mut [bool])
+    requires { ⌜ (length (now view) ≤ 320) × (length (now keep) ≡ length (now view)) × NoMarks (now keep) × InColumn d (now view) ⌝ }
+    ensures { λ _. ⌜ now (keep .exit) ≡ marks d (now (view .entry)) ⌝ }
+{
+    if view.len() <= 64 {
+        let mut rows = [0u64; 64];
+        let mut mates = [0usize; 64];
+        both_steps(d, view, keep, &mut rows, &mut mates);
+    } else {
+        let mut rows = [0u64; 320];
+        let mut mates = [0usize; 320];
+        both_steps(d, view, keep, &mut rows, &mut mates);
+    }
 }

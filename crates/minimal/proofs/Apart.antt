@@ -1,9 +1,12 @@
--- Sets with and without a value in common; the rows that have no value of `singles` are the clear ones. Assumes nothing.
-use Prim.Native.Nat.{ℕ, zero}
-use mathlib.Core.Path.{_≡_, sym, ap, _∙_}
-use mathlib.Core.Logic.{_≢_}
+-- Sets with and without a value in common; the rows that have no value of `singles` are the clear ones, and those that differ from the row before are candidates. Assumes nothing.
+use Prim.Native.Nat.{ℕ, zero, suc, _≤_}
+use mathlib.Core.Path.{_≡_, refl, sym, ap, _∙_, subst}
+use mathlib.Core.Logic.{_≢_, _⊎_, inl, inr}
 use mathlib.Core.Bool.{true}
 use mathlib.Core.List.{List}
+use native.Mathlib.Nat.{suc-ne-zero, suc-inj}
+use native.Mathlib.Decide.{ℕ-discrete}
+use native.Mathlib.Omega.{arith}
 use lib.Bits.{bitAnd}
 use lib.ListN.{length}
 use borrow.Author.Tests.{eqb-true}
@@ -12,7 +15,8 @@ use Rattle.sets.proofs.Bools.{and-left, and-right, and-both, not-both}
 use Rattle.sets.proofs.Values.{has-and, has-empty, has-single}
 use Rattle.sets.proofs.Subsets.{subset-has}
 use Rattle.sets.proofs.ValuesBelow.{some-value}
-use Rattle.minimal.specs.Marking.{Singles, Clear}
+use Rattle.theory.specs.Pairings.{at}
+use Rattle.minimal.specs.Marking.{Singles, Clear, Repeats, Candidate}
 
 -- ---- two sets
 
@@ -39,3 +43,20 @@ module _ (rows : List ℕ) (s : ℕ) (S : Singles rows (length rows) s) (r : ℕ
 
 pub subset-clear : (rows : List ℕ) (a b : ℕ) → subset a b ≡ true → Clear rows b → Clear rows a
 subset-clear rows a b e clear v h = clear v (subset-has a b e v h)
+
+-- ---- candidates
+
+pub repeats? : (rows : List ℕ) (j : ℕ) → Repeats rows j ⊎ (Repeats rows j → ⊥)
+repeats? rows zero = inr (λ t. suc-ne-zero (t .0) (sym (t .1)))
+repeats? rows (suc i) = elim (ℕ-discrete (at rows i) (at rows (suc i))) [
+  | yes e ↦ inl (i, refl, e)
+  | no ne ↦ inr (λ t. ne (ap (at rows) (suc-inj (t .1)) ∙ t .2))
+]
+
+-- a clear row is a candidate, or one that stands before it and is equal is
+pub leader : (rows : List ℕ) (j : ℕ) → Clear rows (at rows j) → (f : ℕ) × (f ≤ j) × (at rows f ≡ at rows j) × Candidate rows f
+leader rows zero clear = (zero, omega arith, refl, record { clear = clear; new = λ t. suc-ne-zero (t .0) (sym (t .1)) })
+leader rows (suc i) clear = elim (ℕ-discrete (at rows i) (at rows (suc i))) [
+  | yes e ↦ let t = leader rows i (subst (Clear rows) (sym e) clear) in (t .0, omega (arith, t .1), t .2 ∙ e, t .3)
+  | no ne ↦ (suc i, omega arith, refl, record { clear = clear; new = λ t. ne (ap (at rows) (suc-inj (t .1)) ∙ t .2) })
+]

@@ -1,4 +1,4 @@
--- The chains are made from the last row on: each clear row goes in front of the chain of those with as many values. Assumes nothing.
+-- The chains are made from the last row on: each candidate goes in front of the chain of those with as many values. Assumes nothing.
 use Prim.Native.Nat.{ℕ, zero, _+_, _≤_, _<_}
 use mathlib.Core.Path.{_≡_, refl, sym, _∙_, subst}
 use mathlib.Core.List.{List}
@@ -8,7 +8,7 @@ use lib.Count.{ones}
 use lib.ListN.{length, set, length-set, replicate, getD-replicate}
 use Rattle.theory.specs.Pairings.{at}
 use Rattle.theory.proofs.Places.{at-same, at-other}
-use Rattle.minimal.specs.Marking.{Clear, InChain, FirstFrom, Past, Chains, Spans}
+use Rattle.minimal.specs.Marking.{Candidate, InChain, FirstFrom, Past, Chains, Spans}
 
 -- ---- the start
 
@@ -40,27 +40,27 @@ module _ (rows : List ℕ) (t u : ℕ) (e : t ≡ u + 1) where
     hit = F .hit;
   }
 
-  -- row u is not clear
-  pub chains-skip : (next head : List ℕ) → (Clear rows (at rows u) → ⊥) → Chains rows next head t → Chains rows next head u
+  -- row u is no candidate
+  pub chains-skip : (next head : List ℕ) → (Candidate rows u → ⊥) → Chains rows next head t → Chains rows next head u
   chains-skip next head dim C = record {
     long = C .long;
     wide = C .wide;
     heads = λ k h. first-down k (at head k) (λ c. dim (c .0)) (C .heads k h);
     links = λ i a b. elim (ℕ-discrete i u) [
-      | yes q ↦ λ c. absurd (dim (subst (λ (x : ℕ). Clear rows (at rows x)) q c))
+      | yes q ↦ λ c. absurd (dim (subst (Candidate rows) q c))
       | no ne ↦ C .links i (omega arith) b
     ];
   }
 
-  pub spans-skip : (low high : ℕ) → (Clear rows (at rows u) → ⊥) → Spans rows t low high → Spans rows u low high
+  pub spans-skip : (low high : ℕ) → (Candidate rows u → ⊥) → Spans rows t low high → Spans rows u low high
   spans-skip low high dim S = record {
     top = S .top;
     least = λ j a b. elim (ℕ-discrete j u) [
-      | yes q ↦ λ c. absurd (dim (subst (λ (x : ℕ). Clear rows (at rows x)) q c))
+      | yes q ↦ λ c. absurd (dim (subst (Candidate rows) q c))
       | no ne ↦ S .least j (omega arith) b
     ];
     most = λ j a b. elim (ℕ-discrete j u) [
-      | yes q ↦ λ c. absurd (dim (subst (λ (x : ℕ). Clear rows (at rows x)) q c))
+      | yes q ↦ λ c. absurd (dim (subst (Candidate rows) q c))
       | no ne ↦ S .most j (omega arith) b
     ];
   }
@@ -78,8 +78,8 @@ module _ (rows : List ℕ) (t u : ℕ) (e : t ≡ u + 1) where
     ];
   }
 
-  -- row u is clear
-  module _ (next head : List ℕ) (C : Chains rows next head t) (h : u < length rows) (clear : Clear rows (at rows u)) (few : ones (at rows u) < 65) where
+  -- row u is a candidate
+  module _ (next head : List ℕ) (C : Chains rows next head t) (h : u < length rows) (judge : Candidate rows u) (few : ones (at rows u) < 65) where
     abbrev n : ℕ
     n = ones (at rows u)
 
@@ -93,7 +93,7 @@ module _ (rows : List ℕ) (t u : ℕ) (e : t ≡ u + 1) where
     link-here = subst (FirstFrom rows n (u + 1)) (sym (at-same next u (at head n) (omega (arith, C .long)))) (subst (λ (k : ℕ). FirstFrom rows n k (at head n)) e (C .heads n few))
 
     head-here : FirstFrom rows n u (at head′ n)
-    head-here = subst (FirstFrom rows n u) (sym (at-same head n u (omega (arith, C .wide)))) (record { from = omega arith; gap = λ j a b l. absurd (omega arith); hit = λ _. (clear, refl) })
+    head-here = subst (FirstFrom rows n u) (sym (at-same head n u (omega (arith, C .wide)))) (record { from = omega arith; gap = λ j a b l. absurd (omega arith); hit = λ _. (judge, refl) })
 
     pub chains-more : Chains rows next′ head′ u
     chains-more = record {

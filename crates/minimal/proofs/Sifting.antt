@@ -1,4 +1,4 @@
--- The clear rows are judged by how many values they have, few values first, and in view order among equals: what could strike a row out is judged before. Assumes nothing.
+-- The candidates are judged by how many values they have, few values first, and in view order among equals: what could strike a row out is judged before. Assumes nothing.
 use Prim.Native.Nat.{ℕ, zero, _+_, _≤_, _<_}
 use mathlib.Core.Path.{_≡_, refl, sym, ap, _∙_, subst}
 use mathlib.Core.Logic.{_≢_, inl, inr}
@@ -18,8 +18,8 @@ use Rattle.theory.specs.Kept.{marked, pick, firsts}
 use Rattle.theory.proofs.Places.{at-same, at-other}
 use Rattle.theory.proofs.Marks.{mark-same}
 use Rattle.theory.proofs.MinimalRows.{length-firsts}
-use Rattle.minimal.specs.Marking.{Clear, Before, Marks, SomeWithin, NoneWithin, Sieve, InChain, FirstFrom, Chains, Spans}
-use Rattle.minimal.proofs.Apart.{subset-clear}
+use Rattle.minimal.specs.Marking.{Candidate, Before, Marks, SomeWithin, NoneWithin, Sieve, InChain, FirstFrom, Chains, Spans}
+use Rattle.minimal.proofs.Apart.{subset-clear, leader}
 use Rattle.minimal.proofs.Counts.{proper-fewer, marked-most, marked-more}
 use Rattle.minimal.proofs.FirstRows.{Strikes, first-yes, first-no}
 
@@ -32,6 +32,11 @@ before-more rows k i j (inr h) = inr (h .0, omega (arith, h .1))
 before-less : (rows : List ℕ) (k i j : ℕ) → j ≢ i → Before rows k (i + 1) j → Before rows k i j
 before-less rows k i j ne (inl h) = inl h
 before-less rows k i j ne (inr h) = inr (h .0, omega (arith, h .1))
+
+-- an equal row that stands earlier is judged before
+before-same : (rows : List ℕ) (k i f j : ℕ) → f ≤ j → at rows f ≡ at rows j → Before rows k i j → Before rows k i f
+before-same rows k i f j h e (inl l) = let q : ones (at rows f) ≡ ones (at rows j) = ap ones e in inl (omega arith)
+before-same rows k i f j h e (inr l) = inr (ap ones e ∙ l .0, omega (arith, l .1))
 
 module _ {rows : List ℕ} {keep : List Bool} {mins : List ℕ} {found k i : ℕ} (S : Sieve rows keep mins found k i) (h : i < length rows) (C : InChain rows k i) where
   here : Before rows k (i + 1) i
@@ -113,14 +118,15 @@ module _ {rows : List ℕ} {keep : List Bool} {mins : List ℕ} {found k i : ℕ
 
       spared : (j : ℕ) → j < length rows → Strikes rows j i → ⊥
       spared j a s =
-          let t = S .cover j a (subset-clear rows (at rows j) (at rows i) (s .0) (C .0)) (strikes-before j s) in
-          not-both (subset-trans (at mins (t .0)) (at rows j) (at rows i) (t .2) (s .0)) (none (t .0) (t .1))
+          let f = leader rows j (subset-clear rows (at rows j) (at rows i) (s .0) (C .0 .clear)) in
+          let t = S .cover (f .0) (omega (arith, f .1)) (f .3) (before-same rows k i (f .0) j (f .1) (f .2) (strikes-before j s)) in
+          not-both (subset-trans (at mins (t .0)) (at rows j) (at rows i) (subst (λ (x : ℕ). subset (at mins (t .0)) x ≡ true) (f .2) (t .2)) (s .0)) (none (t .0) (t .1))
 
 -- ---- from a chain's row to the next, and from a chain to the next
 
 module _ (rows : List ℕ) (keep : List Bool) (k i k′ i′ : ℕ)
     (to : (j : ℕ) → Before rows k i j → Before rows k′ i′ j)
-    (back : (j : ℕ) → j < length rows → Clear rows (at rows j) → Before rows k′ i′ j → Before rows k i j) where
+    (back : (j : ℕ) → j < length rows → Candidate rows j → Before rows k′ i′ j → Before rows k i j) where
   -- the same rows are judged
   marks-moved : Marks rows keep k i → Marks rows keep k′ i′
   marks-moved M = record { long = M .long; right = λ j l judged. M .right j l (λ c. back j l c (judged c)); only = λ j l c t. to j (M .only j l c t) }
@@ -141,7 +147,7 @@ module _ {rows : List ℕ} {keep : List Bool} {mins : List ℕ} {found k : ℕ} 
       to j (inl h) = inl h
       to j (inr h) = inr (h .0, omega (arith, h .1, F .from))
 
-      back : (j : ℕ) → j < length rows → Clear rows (at rows j) → Before rows k x j → Before rows k i j
+      back : (j : ℕ) → j < length rows → Candidate rows j → Before rows k x j → Before rows k i j
       back j l c (inl h) = inl h
       back j l c (inr h) = elim (decLt j i) [
         | yes b ↦ inr (h .0, b)
@@ -155,7 +161,7 @@ module _ {rows : List ℕ} {keep : List Bool} {mins : List ℕ} {found k : ℕ} 
       to j (inl h) = inl (omega arith)
       to j (inr h) = inl (omega (arith, h .0))
 
-      back : (j : ℕ) → j < length rows → Clear rows (at rows j) → Before rows (k + 1) zero j → Before rows k i j
+      back : (j : ℕ) → j < length rows → Candidate rows j → Before rows (k + 1) zero j → Before rows k i j
       back j l c (inl h) = elim (ℕ-discrete (ones (at rows j)) k) [ yes e ↦ inr (e, omega arith) | no ne ↦ inl (omega arith) ]
       back j l c (inr h) = absurd (not-suc-le-zero (h .1))
 
@@ -202,7 +208,7 @@ sieve-start {rows} {keep} {low} mins P M = record {
     nothing j (inl h) = not-suc-le-zero h
     nothing j (inr h) = not-suc-le-zero (h .1)
 
-    below : (j : ℕ) → j < length rows → Clear rows (at rows j) → Before rows low zero j → ⊥
+    below : (j : ℕ) → j < length rows → Candidate rows j → Before rows low zero j → ⊥
     below j l c (inl h) = omega (arith, P .least j (omega arith) l c)
     below j l c (inr h) = not-suc-le-zero (h .1)
 

@@ -22,8 +22,8 @@ use Rattle.sets.proofs.Extremes.{lowest-has}
 use Rattle.theory.specs.Pairings.{at}
 use Rattle.theory.specs.Kept.{marked, firsts}
 use Rattle.theory.proofs.Marks.{mark-same, mark-cases}
-use Rattle.minimal.specs.Marking.{NoMarks, NoneEmpty, IsSingle, Alone, Singles, Before, Marks}
-use Rattle.minimal.proofs.Apart.{apart, common, single-only, apart-clear}
+use Rattle.minimal.specs.Marking.{NoMarks, NoneEmpty, IsSingle, Alone, Singles, Clear, Before, Marks}
+use Rattle.minimal.proofs.Apart.{apart, common, single-only, apart-clear, repeats?}
 use Rattle.minimal.proofs.FirstRows.{Strikes, equal-strikes, first-yes, first-no}
 
 -- the first i rows are passed: s has the values of those of one value, and these have their marks
@@ -170,12 +170,19 @@ module _ {rows : List ℕ} {keep : List Bool} {s : ℕ} (P : Passed rows keep (l
   pass-done = record {
     long = P .long;
     right = λ j l judged. elim (ℕ-discrete (bitAnd (at rows j) s) zero) [
-      | yes z ↦ absurd (nothing j (judged (apart-clear rows s (P .singles) (at rows j) z)))
       | no ne ↦ common-right j l ne
+      | yes z ↦ let clear = apart-clear rows s (P .singles) (at rows j) z in elim (repeats? rows j) [
+        | inr new ↦ absurd (nothing j (judged (record { clear = clear; new = new })))
+        | inl r ↦ is-false (marked keep j) (several j l clear) ∙ sym (first-no rows j l (r .0) (omega (arith, r .1)) (equal-strikes rows (r .0) j (r .2) (omega (arith, r .1))))
+      ]
     ];
-    only = λ j l clear t. let o = P .only j t in absurd (clear (o .0) (ap (λ (x : ℕ). has x (o .0)) (o .2) ∙ has-same (o .0)) (j, l, o .2));
+    only = λ j l c t. absurd (several j l (c .clear) t);
   }
     where
+      -- a clear row has several values
+      several : (j : ℕ) → j < length rows → Clear rows (at rows j) → marked keep j ≡ true → ⊥
+      several j l clear t = let o = P .only j t in clear (o .0) (ap (λ (x : ℕ). has x (o .0)) (o .2) ∙ has-same (o .0)) (j, l, o .2)
+
       nothing : (j : ℕ) → Before rows zero zero j → ⊥
       nothing j (inl d) = not-suc-le-zero d
       nothing j (inr d) = not-suc-le-zero (d .1)

@@ -1,13 +1,13 @@
 -- What the contracts say while the minimal rows of a view are marked: which values are rows of their own, how the other rows are chained,
 -- and which rows are judged. The marks they come to are `firsts` (document 01, 'Which rows DISTINCT keeps').
-use Prim.Native.Nat.{ℕ, zero, _+_, _/_, _%_, _^_, _≤_, _<_}
+use Prim.Native.Nat.{ℕ, zero, suc, _+_, _/_, _%_, _≤_, _<_}
 use mathlib.Core.Path.{_≡_}
 use mathlib.Core.Logic.{_≢_, _⊎_}
 use mathlib.Core.Bool.{Bool, true, false}
 use mathlib.Core.List.{List}
-use lib.Bits.{bitXor}
+use lib.Bits.{bitOr}
 use lib.Count.{ones}
-use lib.ListN.{length}
+use lib.ListN.{length, set}
 use Rattle.sets.specs.Sets.{has, single, subset}
 use Rattle.theory.specs.Pairings.{at}
 use Rattle.theory.specs.Kept.{marked, pick, firsts}
@@ -40,17 +40,26 @@ pub record Singles (rows : List ℕ) (n s : ℕ) : Type 0 where
 abbrev pub Clear : List ℕ → ℕ → Type 0
 Clear rows r = (v : ℕ) → has r v ≡ true → Alone rows (length rows) v → ⊥
 
+-- row j is the same as the row before it
+abbrev pub Repeats : List ℕ → ℕ → Type 0
+Repeats rows j = (i : ℕ) × (j ≡ suc i) × (at rows i ≡ at rows j)
+
+-- row j has to be judged: it is clear, and not the same as the row before it
+pub record Candidate (rows : List ℕ) (j : ℕ) : Type 0 where
+  pub clear : Clear rows (at rows j)
+  pub new : Repeats rows j → ⊥
+
 -- ---- which rows are judged
 
 -- row j has fewer than k values, or it has k and stands before place i
 abbrev pub Before : List ℕ → ℕ → ℕ → ℕ → Type 0
 Before rows k i j = (ones (at rows j) < k) ⊎ ((ones (at rows j) ≡ k) × (j < i))
 
--- The rows that are not clear are judged, and so are the clear ones before place i of those with k values. They have their marks, and the other rows none.
+-- The rows that are no candidates are judged, and so are the candidates before place i of those with k values. They have their marks, and the other rows none.
 pub record Marks (rows : List ℕ) (keep : List Bool) (k i : ℕ) : Type 0 where
   pub long : length keep ≡ length rows
-  pub right : (j : ℕ) → j < length rows → (Clear rows (at rows j) → Before rows k i j) → marked keep j ≡ marked (firsts rows) j
-  pub only : (j : ℕ) → j < length rows → Clear rows (at rows j) → marked keep j ≡ true → Before rows k i j
+  pub right : (j : ℕ) → j < length rows → (Candidate rows j → Before rows k i j) → marked keep j ≡ marked (firsts rows) j
+  pub only : (j : ℕ) → j < length rows → Candidate rows j → marked keep j ≡ true → Before rows k i j
 
 -- one of the first `found` rows of mins is a subset of x
 abbrev pub SomeWithin : List ℕ → ℕ → ℕ → Type 0
@@ -64,29 +73,34 @@ pub record Scanned (r : Bool) (mins : List ℕ) (found x : ℕ) : Type 0 where
   pub none : r ≡ true → NoneWithin mins found x
   pub some : r ≡ false → SomeWithin mins found x
 
--- a number below 64 that goes by the row alone
+-- a number below 512 that goes by the row alone
 unfoldable pub tagOf : ℕ → ℕ
-tagOf x =
-    let half = bitXor x (x / 2 ^ 32) in
-    let quarter = bitXor half (half / 2 ^ 16) in
-    bitXor quarter (quarter / 2 ^ 8) % 64
+tagOf x = x % 509
 
--- r of the rows found so far are to be tested: all, or those before `base` where x's tag is not among the tags of the others
-abbrev pub ToTest : ℕ → ℕ → ℕ → ℕ → ℕ → Type 0
-ToTest base found tags x r = (r ≡ found) ⊎ ((r ≡ base) × (has tags (tagOf x) ≡ false))
+-- the tag t is in a set of tags, of which each word holds 64
+abbrev pub hasTag : List ℕ → ℕ → Bool
+hasTag tags t = has (at tags (t / 64)) (t % 64)
 
--- The first `found` rows of mins are judged rows, no more than are marked, and each judged clear row has one of them for a subset.
+-- the set of tags with t put in
+abbrev pub withTag : List ℕ → ℕ → List ℕ
+withTag tags t = set tags (t / 64) (bitOr (at tags (t / 64)) (single (t % 64)))
+
+-- r of the rows found so far are to be tested: all, or those before `base` where the tag t is not among the tags of the others
+abbrev pub ToTest : ℕ → ℕ → List ℕ → ℕ → ℕ → Type 0
+ToTest base found tags t r = (r ≡ found) ⊎ ((r ≡ base) × (hasTag tags t ≡ false))
+
+-- The first `found` rows of mins are judged rows, no more than are marked, and each judged candidate has one of them for a subset.
 pub record Sieve (rows : List ℕ) (keep : List Bool) (mins : List ℕ) (found k i : ℕ) : Type 0 where
   pub marks : Marks rows keep k i
   pub room : found ≤ length (pick keep rows)
   pub from : (m : ℕ) → m < found → (j : ℕ) × (j < length rows) × Before rows k i j × (at mins m ≡ at rows j)
-  pub cover : (j : ℕ) → j < length rows → Clear rows (at rows j) → Before rows k i j → SomeWithin mins found (at rows j)
+  pub cover : (j : ℕ) → j < length rows → Candidate rows j → Before rows k i j → SomeWithin mins found (at rows j)
 
 -- ---- chains
 
--- row j is in the chain of the clear rows with k values
+-- row j is in the chain of the candidates with k values
 abbrev pub InChain : List ℕ → ℕ → ℕ → Type 0
-InChain rows k j = Clear rows (at rows j) × (ones (at rows j) ≡ k)
+InChain rows k j = Candidate rows j × (ones (at rows j) ≡ k)
 
 -- x is the first place of chain k from place i on, or a number past the view
 pub record FirstFrom (rows : List ℕ) (k i x : ℕ) : Type 0 where
@@ -103,10 +117,10 @@ pub record Chains (rows next head : List ℕ) (t : ℕ) : Type 0 where
   pub long : length rows ≤ length next
   pub wide : length head ≡ 65
   pub heads : (k : ℕ) → k < 65 → FirstFrom rows k t (at head k)
-  pub links : (i : ℕ) → t ≤ i → i < length rows → Clear rows (at rows i) → FirstFrom rows (ones (at rows i)) (i + 1) (at next i)
+  pub links : (i : ℕ) → t ≤ i → i < length rows → Candidate rows i → FirstFrom rows (ones (at rows i)) (i + 1) (at next i)
 
--- the clear rows from place t on have from low to high values
+-- the candidates from place t on have from low to high values
 pub record Spans (rows : List ℕ) (t low high : ℕ) : Type 0 where
   pub top : high < 65
-  pub least : (j : ℕ) → t ≤ j → j < length rows → Clear rows (at rows j) → low ≤ ones (at rows j)
-  pub most : (j : ℕ) → t ≤ j → j < length rows → Clear rows (at rows j) → ones (at rows j) ≤ high
+  pub least : (j : ℕ) → t ≤ j → j < length rows → Candidate rows j → low ≤ ones (at rows j)
+  pub most : (j : ℕ) → t ≤ j → j < length rows → Candidate rows j → ones (at rows j) ≤ high

@@ -1,12 +1,13 @@
 // The first step of DISTINCT: marks the minimal rows of a view, of equal ones the first.
 // Rows of one value are minimal, and no row that holds such a value and another one is. The other rows are judged by how many values they have,
-// few values first: a proper subset has fewer, so it is judged before.
+// few values first: a proper subset has fewer, so it is judged before. A row that is the same as the row before it is not the first of equal ones.
 ghost use mathlib.Core.Path.{_≡_};
 ghost use mathlib.Core.Logic.{_≢_};
+ghost use mathlib.Core.Bool.{true, false};
 ghost use Prim.Native.Nat.{zero, _+_, _≤_, _<_};
 ghost use lib.ListN.{length};
 ghost use Rattle.theory.specs.Kept.{firsts};
-ghost use Rattle.minimal.specs.Marking.{NoMarks, NoneEmpty, IsSingle, Singles, Marks, Scanned, tagOf, ToTest, Past, Chains, Spans, Sieve};
+ghost use Rattle.minimal.specs.Marking.{NoMarks, NoneEmpty, IsSingle, Singles, Marks, Scanned, tagOf, hasTag, withTag, ToTest, Repeats, Past, Chains, Spans, Sieve};
 
 // The row has one value.
 fn is_single(x: u64) -> bool
@@ -63,28 +64,51 @@ fn none_within(mins: &[u64], found: usize, x: u64) -> bool
     true
 }
 
-// A number below 64 that goes by the row alone: rows with different tags are different.
+// A number below 512 that goes by the row alone: rows with different tags are different. 509 is a prime, so that rows that differ mostly have different tags.
 fn tag(x: u64) -> usize
     ensures { λ r. ⌜ r ≡ tagOf x ⌝ }
 {
-    let half = x ^ (x >> 32);
-    let quarter = half ^ (half >> 16);
-    ((quarter ^ (quarter >> 8)) % 64) as usize
+    (x % 509) as usize
 }
 
-// How many of the minimal rows found so far have to be tested against x. Those from `base` on have as many values as x: one of them is a subset
-// only where it is equal, and where x's tag is not among theirs none is. A few are tested sooner than their tags are looked at.
-fn to_test(base: usize, found: usize, tags: u64, x: u64) -> usize
-    requires { ⌜ base ≤ found ⌝ }
-    ensures { λ r. ⌜ ToTest base found tags x r ⌝ }
+// The tag t is among the tags, which are a set of 64 to a word.
+fn has_tag(tags: &[u64], t: usize) -> bool
+    requires { ⌜ (t < 512) × (length (now tags) ≡ 8) ⌝ }
+    ensures { λ r. ⌜ r ≡ hasTag (now (tags .entry)) t ⌝ }
 {
-    if found - base < 8 {
-        return found;
-    }
-    if sets::has(tags, tag(x)) {
+    sets::has(tags[t / 64], t % 64)
+}
+
+// Puts the tag t among the tags.
+fn add_tag(tags: &mut [u64], t: usize)
+    requires { ⌜ (t < 512) × (length (now tags) ≡ 8) ⌝ }
+    ensures { λ _. ⌜ now (tags .exit) ≡ withTag (now (tags .entry)) t ⌝ }
+{
+    let word = t / 64;
+    tags[word] = sets::with(tags[word], t % 64);
+}
+
+// How many of the minimal rows found so far have to be tested against a row with the tag t. Those from `base` on have as many values as the row:
+// one of them is a subset only where it is equal, and where the tag is not among theirs none is.
+fn to_test(base: usize, found: usize, tags: &[u64], t: usize) -> usize
+    requires { ⌜ (t < 512) × (length (now tags) ≡ 8) ⌝ }
+    ensures { λ r. ⌜ ToTest base found (now (tags .entry)) t r ⌝ }
+{
+    if has_tag(tags, t) {
         return found;
     }
     base
+}
+
+// Row i is the same as the row before it, and so not the first of equal ones.
+fn repeats(rows: &[u64], i: usize) -> bool
+    requires { ⌜ i < length (now rows) ⌝ }
+    ensures { λ r. ⌜ (r ≡ true → Repeats (now (rows .entry)) i) × (r ≡ false → Repeats (now (rows .entry)) i → ⊥) ⌝ }
+{
+    if i == 0 {
+        return false;
+    }
+    rows[i - 1] == rows[i]
 }
 
 // No chained row has fewer than `low` values or more than `high`.
@@ -93,9 +117,9 @@ struct Span {
     high: usize,
 }
 
-// Chains the rows that have no value of `singles` by how many values they have, in view order: head[k] is the first place with k values,
-// next[i] the next one after i with as many; a number past the view where there is none.
-fn chain(rows: &[u64], singles: u64, next: &mut [u32], head: &mut [u32]) -> Span
+// Chains the rows that have no value of `singles` and are not the same as the row before by how many values they have, in view order:
+// head[k] is the first place with k values, next[i] the next one after i with as many; a number past the view where there is none.
+fn chain(rows: &[u64], singles: u64, next: &mut [usize], head: &mut [u16]) -> Span
     requires { ⌜ (length (now rows) ≤ 320) × Singles (now rows) (length (now rows)) singles ⌝ }
     requires { ⌜ (length (now rows) ≤ length (now next)) × (length (now head) ≡ 65) × Past (now rows) (now head) ⌝ }
     ensures { λ r. ⌜ Chains (now (rows .entry)) (now (next .exit)) (now (head .exit)) 0 × Spans (now (rows .entry)) 0 (r .low) (r .high) ⌝ }
@@ -107,14 +131,16 @@ fn chain(rows: &[u64], singles: u64, next: &mut [u32], head: &mut [u32]) -> Span
         left -= 1;
         let row = rows[left];
         if row & singles == 0 {
-            let k = u64::count_ones(row) as usize;
-            next[left] = head[k];
-            head[k] = left as u32;
-            if k < low {
-                low = k;
-            }
-            if high < k {
-                high = k;
+            if !repeats(rows, left) {
+                let k = u64::count_ones(row) as usize;
+                next[left] = head[k] as usize;
+                head[k] = left as u16;
+                if k < low {
+                    low = k;
+                }
+                if high < k {
+                    high = k;
+                }
             }
         }
     }
@@ -124,8 +150,8 @@ fn chain(rows: &[u64], singles: u64, next: &mut [u32], head: &mut [u32]) -> Span
 // Judges the chained rows of k values: one that has no subset among the minimal rows found so far is minimal too.
 fn level(
     rows: &[u64],
-    next: &[u32],
-    head: &[u32],
+    next: &[usize],
+    head: &[u16],
     k: usize,
     keep: &mut [bool],
     mins: &mut [u64],
@@ -136,29 +162,30 @@ fn level(
     ensures { λ r. ⌜ Sieve (now (rows .entry)) (now (keep .exit)) (now (mins .exit)) r (k + 1) 0 ⌝ }
 {
     let base = found;
-    let mut tags: u64 = 0;
+    let mut tags = [0u64; 8];
     let mut place = head[k] as usize;
     while place < rows.len() {
         let i = place;
-        place = next[i] as usize;
+        place = next[i];
         let x = rows[i];
-        if none_within(mins, to_test(base, found, tags, x), x) {
+        let t = tag(x);
+        if none_within(mins, to_test(base, found, &tags, t), x) {
             keep[i] = true;
             mins[found] = x;
             found += 1;
-            tags = sets::with(tags, tag(x));
+            add_tag(&mut tags, t);
         }
     }
     found
 }
 
 // Judges the rows that have no value of `singles`, few values first. `next` and `mins` are scratch places.
-fn sift(rows: &[u64], singles: u64, keep: &mut [bool], next: &mut [u32], mins: &mut [u64])
+fn sift(rows: &[u64], singles: u64, keep: &mut [bool], next: &mut [usize], mins: &mut [u64])
     requires { ⌜ (length (now rows) ≤ 320) × Singles (now rows) (length (now rows)) singles × Marks (now rows) (now keep) 0 0 ⌝ }
     requires { ⌜ (length (now rows) ≤ length (now next)) × (length (now rows) ≤ length (now mins)) ⌝ }
     ensures { λ _. ⌜ now (keep .exit) ≡ firsts (now (rows .entry)) ⌝ }
 {
-    let mut head = [320u32; 65];
+    let mut head = [320u16; 65];
     let span = chain(rows, singles, next, &mut head);
     let high = span.high;
     let mut found: usize = 0;
@@ -169,19 +196,12 @@ fn sift(rows: &[u64], singles: u64, keep: &mut [bool], next: &mut [u32], mins: &
     }
 }
 
-// Marks the minimal rows, of equal ones the first.
-pub fn mark_minimal(rows: &[u64], keep: &mut [bool])
+// Marks the minimal rows, of equal ones the first. `next` and `mins` are scratch places.
+pub fn mark_minimal(rows: &[u64], keep: &mut [bool], next: &mut [usize], mins: &mut [u64])
     requires { ⌜ (length (now rows) ≤ 320) × (length (now keep) ≡ length (now rows)) × NoMarks (now keep) × NoneEmpty (now rows) ⌝ }
+    requires { ⌜ (length (now rows) ≤ length (now next)) × (length (now rows) ≤ length (now mins)) ⌝ }
     ensures { λ _. ⌜ now (keep .exit) ≡ firsts (now (rows .entry)) ⌝ }
 {
     let singles = mark_singles(rows, keep);
-    if rows.len() <= 64 {
-        let mut next = [0u32; 64];
-        let mut mins = [0u64; 64];
-        sift(rows, singles, keep, &mut next, &mut mins);
-    } else {
-        let mut next = [0u32; 320];
-        let mut mins = [0u64; 320];
-        sift(rows, singles, keep, &mut next, &mut mins);
-    }
+    sift(rows, singles, keep, next, mins);
 }

@@ -3,11 +3,10 @@ use Prim.Native.Nat.{ℕ, _+_, _-_, _≤_, _<_}
 use mathlib.Core.Path.{_≡_, refl, sym, ap, subst, _∙_}
 use mathlib.Core.Logic.{inl, inr}
 use native.Mathlib.Omega.{arith}
-use lib.Bits.{bitOr}
-use lib.ListN.{length, set, length-set}
-use Rattle.sets.specs.Sets.{single}
+use lib.ListN.{length, set, length-set, replicate}
 use borrow.Author.Needs.{needs}
 use Rattle.theory.specs.Pairings.{at}
+use Rattle.minimal.specs.Marking.{withTag, ToTest}
 use Rattle.minimal.proofs.Sifting.{Walk, walk-start, walk-on, walk-room, walk-miss, walk-hit, sieve-next}
 use Rattle.minimal.proofs.Counts.{marked-most}
 use Rattle.minimal.proofs.Tags.{Tagged, tagged-start, tagged-more, tested, tag-small}
@@ -15,10 +14,10 @@ use Rattle.minimal.proofs.level.Statement.{statement}
 use Rattle.minimal.proofs.level.Tie as tie
 use Rattle.minimal.proofs.level.Reads as reads
 use Rattle.minimal.proofs.level.Lts as lts
+use Rattle.minimal.proofs.add_tag.Reads as add-tag-reads
 use Rattle.minimal.proofs.none_within.Reads as none-within-reads
 use Rattle.minimal.proofs.tag.Reads as tag-reads
 use Rattle.minimal.proofs.to_test.Reads as to-test-reads
-use Rattle.sets.proofs.with.Reads as with-reads
 
 abbrev Inv-loop : tie.InvT-loop
 Inv-loop rows next head k keep₀ mins₀ found₀ base tags₀ place₀ keep mins found tags place = Walk rows keep mins found k place × Tagged mins base found k tags × (length mins ≡ length mins₀)
@@ -44,7 +43,7 @@ cast-place : tie.Need-cast-place Inv-loop μ-loop
 cast-place c = let e = c .before .before .before .before .before .before in record { fits = omega (arith, c .shared-slice-known4 .given (e .args .k) .fits) }
 
 loop-holds : tie.Need-loop-holds Inv-loop μ-loop
-loop-holds c = let e = c .before .before .before .before .before .before in (walk-start (e .pre .0 .2) (e .pre .0 .0) (e .pre .1), tagged-start (e .args .mins .now) (e .args .found) (e .args .k), refl)
+loop-holds c = let e = c .before .before .before .before .before .before in (walk-start (e .pre .0 .2) (e .pre .0 .0) (e .pre .1), tagged-start (e .args .mins .now) (e .args .found) (e .args .k) (replicate 8 0) refl, refl)
 
 mul-place-2 : tie.Need-mul-place-2 Inv-loop μ-loop
 mul-place-2 c = search needs
@@ -52,75 +51,81 @@ mul-place-2 c = search needs
 shared-slice-read-place-2 : tie.Need-shared-slice-read-place-2 Inv-loop μ-loop
 shared-slice-read-place-2 c = let e = c .before .before .before .before .before .before .before .before .before in omega (arith, e .pre .0 .2 .long)
 
-cast-place-2 : tie.Need-cast-place-2 Inv-loop μ-loop
-cast-place-2 c = let l = c .before .before in record { fits = omega (arith, c .shared-slice-known5 .given (l .loop .place) .fits) }
-
 mul-x : tie.Need-mul-x Inv-loop μ-loop
 mul-x c = search needs
 
 shared-slice-read-x : tie.Need-shared-slice-read-x Inv-loop μ-loop
 shared-slice-read-x c = search needs
 
+tag-requires : tie.Need-tag-requires Inv-loop μ-loop
+tag-requires c κs = search needs
+
+slice-aggregate-to-test : tie.Need-slice-aggregate-to-test Inv-loop μ-loop
+slice-aggregate-to-test c = search needs
+
 to-test-requires : tie.Need-to-test-requires Inv-loop μ-loop
-to-test-requires c κs = c .before .before .before .before .loop .inv .1 .least
+to-test-requires c κs = let l = c .before .before .before .before .before .before in (omega (arith, c .before .before .tag .ensures, tag-small (at (c .before .before .before .before .before .before .before .before .before .before .before .before .before .args .rows .now) (l .loop .place))), l .loop .inv .1 .wide)
 
 none-within-requires : tie.Need-none-within-requires Inv-loop μ-loop
 none-within-requires c κs =
-    let l = c .before .before .before .before .before in
-    let e = l .before .before .before .before .before .before .before in
+    let l = c .before .before .before .before .before .before .before in
+    let e = c .before .before .before .before .before .before .before .before .before .before .before .before .before .before in
     let all : l .loop .found ≤ length (l .loop .mins) = omega (arith, l .loop .inv .0 .sieve .room, marked-most (l .loop .keep) (e .args .rows .now), l .loop .inv .2, e .pre .0 .1) in
     elim (c .to-test .ensures) [ inl q ↦ omega arith | inr q ↦ omega (arith, q .0, l .loop .inv .1 .least) ]
 
 slice-write-keep : tie.Need-slice-write-keep Inv-loop μ-loop
-slice-write-keep c = let l = c .before .before .before .before .before .before .before in omega (arith, l .loop .inv .0 .sieve .marks .long)
+slice-write-keep c = let l = c .before .before .before .before .before .before .before .before .before in omega (arith, l .loop .inv .0 .sieve .marks .long)
 
 mul-mins : tie.Need-mul-mins Inv-loop μ-loop
-mul-mins c = let h = room (c .before .before .before .before .before .before) in search needs
+mul-mins c = let h = room (c .before .before .before .before .before .before .before .before) in search needs
 
 slice-write-mins : tie.Need-slice-write-mins Inv-loop μ-loop
-slice-write-mins c = let l = c .before .before .before .before .before .before .before in let e = l .before .before .before .before .before .before .before in omega (arith, room (c .before .before .before .before .before .before), l .loop .inv .2, e .pre .0 .1)
+slice-write-mins c = let l = c .before .before .before .before .before .before .before .before .before in let e = c .before .before .before .before .before .before .before .before .before .before .before .before .before .before .before .before in omega (arith, room (c .before .before .before .before .before .before .before .before), l .loop .inv .2, e .pre .0 .1)
 
 add-found : tie.Need-add-found Inv-loop μ-loop
-add-found c = omega (arith, room (c .before .before .before .before .before .before))
+add-found c = omega (arith, room (c .before .before .before .before .before .before .before .before))
 
-tag-requires : tie.Need-tag-requires Inv-loop μ-loop
-tag-requires c κs = search needs
+slice-aggregate-add-tag : tie.Need-slice-aggregate-add-tag Inv-loop μ-loop
+slice-aggregate-add-tag c = search needs
 
-with-requires : tie.Need-with-requires Inv-loop μ-loop
-with-requires c κs = omega (arith, c .tag .ensures, tag-small (at (c .before .before .before .before .before .before .before .before .before .before .before .before .before .before .before .args .rows .now) (c .before .before .before .before .before .before .before .before .loop .place)))
+add-tag-requires : tie.Need-add-tag-requires Inv-loop μ-loop
+add-tag-requires c κs = let l = c .before .before .before .before .before .before .before .before .before .before in (omega (arith, c .before .before .before .before .before .before .tag .ensures, tag-small (at (c .before .before .before .before .before .before .before .before .before .before .before .before .before .before .before .before .before .args .rows .now) (l .loop .place))), l .loop .inv .1 .wide)
 
 loop-less : tie.Need-loop-less Inv-loop μ-loop
-loop-less c = omega (arith, on (c .before .before .before .before .before .before .before .before))
+loop-less c = omega (arith, on (c .before .before .before .before .before .before .before .before .before .before .before))
 
 loop-again : tie.Need-loop-again Inv-loop μ-loop
 loop-again c =
+    let l = c .before .before .before .before .before .before .before .before .before .before .before .before in
+    let e = l .before .before .before .before .before .before .before in
+    let x = at (e .args .rows .now) (l .loop .place) in
+    let taken = c .before .before .before .before .before .before .before .before .before .before .before .loop-test .taken in
+    let count = l .loop .inv .0 .hit taken .1 in
+    let q = c .before .before .before .before .before .to-test in
+    let scanned = tested (l .loop .inv .1) x count (q .result) (subst (λ (t : ℕ). ToTest (e .args .found) (l .loop .found) (l .loop .tags) t (q .result)) (c .before .before .before .before .before .before .before .before .tag .ensures) (q .ensures)) (c .before .before .before .before .none-within .result) (c .before .before .before .before .none-within .ensures) in
+    let o = c .before .add-tag in
+    let long : l .loop .found < length (l .loop .mins) = omega (arith, room (c .before .before .before .before .before .before .before .before .before .before .before), l .loop .inv .2, e .pre .0 .1) in (
+      walk-hit (e .pre .0 .2) (l .loop .inv .0) taken (scanned .none (c .before .before .before .if1 .taken)) long,
+      subst (Tagged (set (l .loop .mins) (l .loop .found) x) (e .args .found) (l .loop .found + 1) (e .args .k)) (sym (o .ensures ∙ ap (withTag (l .loop .tags)) (c .before .before .before .before .before .before .before .before .tag .ensures))) (tagged-more (l .loop .inv .1) x count long),
+      length-set (l .loop .mins) (l .loop .found) x ∙ l .loop .inv .2,
+    )
+
+loop-less-2 : tie.Need-loop-less-2 Inv-loop μ-loop
+loop-less-2 c = omega (arith, on (c .before .before .before .before .before .before .before .before))
+
+loop-again-2 : tie.Need-loop-again-2 Inv-loop μ-loop
+loop-again-2 c =
     let l = c .before .before .before .before .before .before .before .before .before in
     let e = l .before .before .before .before .before .before .before in
     let x = at (e .args .rows .now) (l .loop .place) in
     let taken = c .before .before .before .before .before .before .before .before .loop-test .taken in
     let count = l .loop .inv .0 .hit taken .1 in
-    let scanned = tested (l .loop .inv .1) x count (c .before .before .before .before .to-test .result) (c .before .before .before .before .to-test .ensures) (c .before .before .before .none-within .result) (c .before .before .before .none-within .ensures) in
-    let long : l .loop .found < length (l .loop .mins) = omega (arith, room (c .before .before .before .before .before .before .before .before), l .loop .inv .2, e .pre .0 .1) in (
-      walk-hit (e .pre .0 .2) (l .loop .inv .0) taken (scanned .none (c .before .before .if1 .taken)) long,
-      subst (Tagged (set (l .loop .mins) (l .loop .found) x) (e .args .found) (l .loop .found + 1) (e .args .k)) (sym (c .with .ensures ∙ ap (λ (t : ℕ). bitOr (l .loop .tags) (single t)) (c .before .tag .ensures))) (tagged-more (l .loop .inv .1) x count long),
-      length-set (l .loop .mins) (l .loop .found) x ∙ l .loop .inv .2,
-    )
-
-loop-less-2 : tie.Need-loop-less-2 Inv-loop μ-loop
-loop-less-2 c = omega (arith, on (c .before .before .before .before .before .before))
-
-loop-again-2 : tie.Need-loop-again-2 Inv-loop μ-loop
-loop-again-2 c =
-    let l = c .before .before .before .before .before .before .before in
-    let e = l .before .before .before .before .before .before .before in
-    let x = at (e .args .rows .now) (l .loop .place) in
-    let taken = c .before .before .before .before .before .before .loop-test .taken in
-    let count = l .loop .inv .0 .hit taken .1 in
-    let scanned = tested (l .loop .inv .1) x count (c .before .before .to-test .result) (c .before .before .to-test .ensures) (c .before .none-within .result) (c .before .none-within .ensures) in
+    let q = c .before .before .to-test in
+    let scanned = tested (l .loop .inv .1) x count (q .result) (subst (λ (t : ℕ). ToTest (e .args .found) (l .loop .found) (l .loop .tags) t (q .result)) (c .before .before .before .before .before .tag .ensures) (q .ensures)) (c .before .none-within .result) (c .before .none-within .ensures) in
     (walk-miss (e .pre .0 .2) (l .loop .inv .0) taken (scanned .some (c .if1 .left)), l .loop .inv .1, l .loop .inv .2)
 
 same-length : tie.Need-same-length Inv-loop μ-loop
-same-length c = let l = c .before in let e = l .before .before .before .before .before .before .before in l .loop .inv .0 .sieve .marks .long ∙ sym (e .pre .1 .marks .long)
+same-length c = let l = c .before in let e = c .before .before .before .before .before .before .before .before in l .loop .inv .0 .sieve .marks .long ∙ sym (e .pre .1 .marks .long)
 
 same-length-2 : tie.Need-same-length-2 Inv-loop μ-loop
 same-length-2 c = c .before .loop .inv .2
@@ -140,17 +145,18 @@ level-spec =
     loop-holds
     mul-place-2
     shared-slice-read-place-2
-    cast-place-2
     mul-x
     shared-slice-read-x
+    tag-requires
+    slice-aggregate-to-test
     to-test-requires
     none-within-requires
     slice-write-keep
     mul-mins
     slice-write-mins
     add-found
-    tag-requires
-    with-requires
+    slice-aggregate-add-tag
+    add-tag-requires
     loop-less
     loop-again
     loop-less-2

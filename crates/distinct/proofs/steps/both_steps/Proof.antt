@@ -1,0 +1,79 @@
+-- `both_steps` meets its contract: the steps work with 64 values, and a column with fewer keeps the same rows. Assumes nothing.
+use mathlib.Core.Path.{sym, ap, _∙_}
+use native.Mathlib.Omega.{arith}
+use lib.ListN.{length}
+use lib.Seq.{length-take-le}
+use Rattle.theory.specs.Kept.{tries, marks}
+use Rattle.theory.proofs.KeptAnyD.{marks-any}
+use Rattle.distinct.proofs.Start.{column-rows, none-empty}
+use borrow.Author.Needs.{needs}
+use Rattle.distinct.proofs.steps.both_steps.Statement.{statement}
+use Rattle.distinct.proofs.steps.both_steps.Tie as tie
+use Rattle.distinct.proofs.steps.both_steps.Reads as reads
+use Rattle.distinct.proofs.steps.both_steps.Lts as lts
+use Rattle.distinct.proofs.steps.second_step.Reads as second-step-reads
+use Rattle.minimal.proofs.mark_minimal.Reads as mark-minimal-reads
+
+mark-minimal-requires : tie.Need-mark-minimal-requires
+mark-minimal-requires c κs =
+    let e = c .before .before .before .before .before .before .before in
+    ((e .pre .0 .0, e .pre .0 .1, e .pre .0 .2, none-empty (e .args .d) (e .args .view .now) (e .pre .0 .3)), (e .pre .1 .1 .rows, e .pre .1 .0 .rows))
+
+slice-relend-prefix-second-step : tie.Need-slice-relend-prefix-second-step
+slice-relend-prefix-second-step c = search needs
+
+slice-aggregate-second-step : tie.Need-slice-aggregate-second-step
+slice-aggregate-second-step c =
+    let e = c .before .before .before .before .before .before .before .before .before .before .before .before .before .before .before .before in
+    let m = c .before .before .before .before .before .before .before .before .mark-minimal in
+    sym (length-take-le 64 (m .last .1 .1 .1 .0) (omega (arith, m .kept .1 .1 .1 .0, e .pre .1 .0 .seats)))
+
+slice-relend-prefix-second-step-2 : tie.Need-slice-relend-prefix-second-step-2
+slice-relend-prefix-second-step-2 c = search needs
+
+slice-aggregate-second-step-2 : tie.Need-slice-aggregate-second-step-2
+slice-aggregate-second-step-2 c =
+    let e = c .before .before .before .before .before .before .before .before .before .before .before .before .before .before .before .before .before in
+    let m = c .before .before .before .before .before .before .before .before .before .mark-minimal in
+    sym (length-take-le 64 (m .last .1 .1 .0) (omega (arith, m .kept .1 .1 .0, e .pre .1 .1 .seats)))
+
+second-step-requires : tie.Need-second-step-requires
+second-step-requires c κs =
+    let e = c .before .before .before .before .before .before .before .before .before .before .before .before .before .before .before .before .before in
+    let m = c .before .before .before .before .before .before .before .before .before .mark-minimal in (
+      m .kept .1 .0 ∙ e .pre .0 .1,
+      e .pre .0 .3,
+      length-take-le 64 (m .last .1 .1 .1 .0) (omega (arith, m .kept .1 .1 .1 .0, e .pre .1 .0 .seats)),
+      length-take-le 64 (m .last .1 .1 .0) (omega (arith, m .kept .1 .1 .0, e .pre .1 .1 .seats)),
+    )
+
+same-length : tie.Need-same-length
+same-length c = search needs
+
+same-length-2 : tie.Need-same-length-2
+same-length-2 c = search needs
+
+same-length-3 : tie.Need-same-length-3
+same-length-3 c = search needs
+
+returns : tie.Need-returns
+unfolding marks
+returns c =
+    let e = c .before .before .before .before .before .before .before .before .before .before .before .before .before .before .before .before .before .before .before .before .before .before .before .before in
+    c .before .before .before .before .before .before .second-step .ensures ∙ ap (tries 64 (e .args .view .now) (length (e .args .view .now)) 0) (c .before .before .before .before .before .before .before .before .before .before .before .before .before .before .before .before .mark-minimal .ensures)
+    ∙ sym (marks-any (e .args .d) 64 (e .pre .0 .3 .column) (e .args .view .now) (column-rows (e .args .d) (e .args .view .now) (e .pre .0 .3)))
+
+pub both-steps-spec : {M : Type 1} → statement M
+both-steps-spec =
+    tie.close
+    (tie.spec
+    mark-minimal-requires
+    slice-relend-prefix-second-step
+    slice-aggregate-second-step
+    slice-relend-prefix-second-step-2
+    slice-aggregate-second-step-2
+    second-step-requires
+    same-length
+    same-length-2
+    same-length-3
+    returns)
