@@ -45,6 +45,9 @@ pub proper-fewer : (a b : ℕ) → proper a b ≡ true → ones a < ones b
 unfolding proper
 proper-fewer a b e = fewer b a (subset-has a b (proper-subset a b e)) (eqb-false a b (not-true (eqb a b) (and-right (subset a b) (not (eqb a b)) e)))
 
+pub some-ones : (a : ℕ) → a ≢ zero → zero < ones a
+some-ones a ne = omega (arith, fewer a zero (λ v h. absurd (not-both h (has-empty v))) (λ e. ne (sym e)))
+
 -- ---- marked rows
 
 pub marked-most : (ms : List Bool) (rows : List ℕ) → length (pick ms rows) ≤ length rows

@@ -1,14 +1,19 @@
 -- The chains are made from the last row on: each candidate goes in front of the chain of those with as many values. Assumes nothing.
-use Prim.Native.Nat.{ℕ, zero, _+_, _≤_, _<_}
-use mathlib.Core.Path.{_≡_, refl, sym, _∙_, subst}
+use Prim.Native.Nat.{ℕ, zero, _+_, _-_, _≤_, _<_}
+use mathlib.Core.Path.{_≡_, refl, sym, ap, _∙_, subst}
+use mathlib.Core.Logic.{inl, inr}
 use mathlib.Core.List.{List}
 use native.Mathlib.Decide.{ℕ-discrete}
 use native.Mathlib.Omega.{arith}
+use lib.Bits.{bitOr}
 use lib.Count.{ones}
 use lib.ListN.{length, set, length-set, replicate, getD-replicate}
+use Rattle.sets.specs.Sets.{has, single}
+use Rattle.sets.proofs.Values.{with-old, with-new, with-cases}
+use Rattle.sets.proofs.ValuesBelow.{less-has, has-less}
 use Rattle.theory.specs.Pairings.{at}
 use Rattle.theory.proofs.Places.{at-same, at-other}
-use Rattle.minimal.specs.Marking.{Candidate, InChain, FirstFrom, Past, Chains, Spans}
+use Rattle.minimal.specs.Marking.{Candidate, InChain, FirstFrom, Past, Chains, Sizes}
 
 -- ---- the start
 
@@ -23,8 +28,8 @@ chains-start rows next head l w past = record {
   links = λ i a b. absurd (omega arith);
 }
 
-pub spans-start : (rows : List ℕ) → Spans rows (length rows) 64 0
-spans-start rows = record { top = omega arith; least = λ j a b. absurd (omega arith); most = λ j a b. absurd (omega arith) }
+pub sizes-start : (rows : List ℕ) → Sizes rows (length rows) zero
+sizes-start rows = record { word = omega arith; all = λ j a b. absurd (omega arith) }
 
 -- ---- one row
 
@@ -52,29 +57,21 @@ module _ (rows : List ℕ) (t u : ℕ) (e : t ≡ u + 1) where
     ];
   }
 
-  pub spans-skip : (low high : ℕ) → (Candidate rows u → ⊥) → Spans rows t low high → Spans rows u low high
-  spans-skip low high dim S = record {
-    top = S .top;
-    least = λ j a b. elim (ℕ-discrete j u) [
+  pub sizes-skip : (sizes : ℕ) → (Candidate rows u → ⊥) → Sizes rows t sizes → Sizes rows u sizes
+  sizes-skip sizes dim S = record {
+    word = S .word;
+    all = λ j a b. elim (ℕ-discrete j u) [
       | yes q ↦ λ c. absurd (dim (subst (Candidate rows) q c))
-      | no ne ↦ S .least j (omega arith) b
-    ];
-    most = λ j a b. elim (ℕ-discrete j u) [
-      | yes q ↦ λ c. absurd (dim (subst (Candidate rows) q c))
-      | no ne ↦ S .most j (omega arith) b
+      | no ne ↦ S .all j (omega arith) b
     ];
   }
 
-  pub spans-more : (low high low′ high′ : ℕ) → low′ ≤ low → low′ ≤ ones (at rows u) → high ≤ high′ → ones (at rows u) ≤ high′ → high′ < 65 → Spans rows t low high → Spans rows u low′ high′
-  spans-more low high low′ high′ a b c d top S = record {
-    top = top;
-    least = λ j l m clear. elim (ℕ-discrete j u) [
-      | yes q ↦ subst (λ (x : ℕ). low′ ≤ ones (at rows x)) (sym q) b
-      | no ne ↦ let h = S .least j (omega arith) m clear in omega (arith, h)
-    ];
-    most = λ j l m clear. elim (ℕ-discrete j u) [
-      | yes q ↦ subst (λ (x : ℕ). ones (at rows x) ≤ high′) (sym q) d
-      | no ne ↦ let h = S .most j (omega arith) m clear in omega (arith, h)
+  pub sizes-more : (sizes : ℕ) → ones (at rows u) - 1 < 64 → Sizes rows t sizes → Sizes rows u (bitOr sizes (single (ones (at rows u) - 1)))
+  sizes-more sizes small S = record {
+    word = less-has 64 (bitOr sizes (single (ones (at rows u) - 1))) (λ v h. elim (with-cases sizes (ones (at rows u) - 1) v h) [ inl q ↦ omega (arith, q, small) | inr o ↦ has-less 64 sizes v (S .word) o ]);
+    all = λ j a b c. elim (ℕ-discrete j u) [
+      | yes q ↦ ap (λ (x : ℕ). has (bitOr sizes (single (ones (at rows u) - 1))) (ones (at rows x) - 1)) q ∙ with-new sizes (ones (at rows u) - 1)
+      | no ne ↦ with-old sizes (ones (at rows u) - 1) (ones (at rows j) - 1) (S .all j (omega arith) b c)
     ];
   }
 

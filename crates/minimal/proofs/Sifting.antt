@@ -1,26 +1,29 @@
 -- The candidates are judged by how many values they have, few values first, and in view order among equals: what could strike a row out is judged before. Assumes nothing.
-use Prim.Native.Nat.{ℕ, zero, _+_, _≤_, _<_}
+use Prim.Native.Nat.{ℕ, zero, _+_, _-_, _^_, _≤_, _<_}
 use mathlib.Core.Path.{_≡_, refl, sym, ap, _∙_, subst}
-use mathlib.Core.Logic.{_≢_, inl, inr}
+use mathlib.Core.Logic.{_≢_, _⊎_, inl, inr}
 use mathlib.Core.Bool.{Bool, true, false}
 use mathlib.Core.List.{List}
 use native.Mathlib.Nat.{not-suc-le-zero, lt-irrefl}
 use native.Mathlib.Decide.{ℕ-discrete, decLt}
 use native.Mathlib.Omega.{arith}
-use lib.Count.{ones}
+use lib.Count.{ones, trailingZeros}
 use lib.ListN.{length, set, length-set}
 use lib.Seq.{ext-getD, getD-set-other}
-use Rattle.sets.specs.Sets.{subset, proper}
+use Rattle.sets.specs.Sets.{has, single, subset, proper, minus}
 use Rattle.sets.proofs.Bools.{true-or-false, not-both, is-false}
-use Rattle.sets.proofs.Subsets.{subset-refl, subset-trans, subset-same}
+use Rattle.sets.proofs.Extremes.{lowest-has, lowest-least}
+use Rattle.sets.proofs.Subsets.{subset-refl, subset-trans, subset-same, without-less}
+use Rattle.sets.proofs.Values.{has-empty, has-same, minus-in, minus-out}
+use Rattle.sets.proofs.ValuesBelow.{minus-word}
 use Rattle.theory.specs.Pairings.{at}
 use Rattle.theory.specs.Kept.{marked, pick, firsts}
 use Rattle.theory.proofs.Places.{at-same, at-other}
 use Rattle.theory.proofs.Marks.{mark-same}
 use Rattle.theory.proofs.MinimalRows.{length-firsts}
-use Rattle.minimal.specs.Marking.{Candidate, Before, Marks, SomeWithin, NoneWithin, Sieve, InChain, FirstFrom, Chains, Spans}
-use Rattle.minimal.proofs.Apart.{subset-clear, leader}
-use Rattle.minimal.proofs.Counts.{proper-fewer, marked-most, marked-more}
+use Rattle.minimal.specs.Marking.{NoneEmpty, Candidate, Before, Marks, SomeWithin, NoneWithin, Sieve, InChain, FirstFrom, Chains, Sizes}
+use Rattle.minimal.proofs.Apart.{single-only, subset-clear, leader}
+use Rattle.minimal.proofs.Counts.{proper-fewer, some-ones, marked-most, marked-more}
 use Rattle.minimal.proofs.FirstRows.{Strikes, first-yes, first-no}
 
 -- ---- one row of a chain
@@ -194,28 +197,79 @@ module _ {rows next head : List ℕ} (C : Chains rows next head zero) {keep : Li
   pub walk-hit : NoneWithin mins found (at rows i) → found < length mins → Walk rows (set keep i true) (set mins found (at rows i)) (found + 1) k (at next i)
   walk-hit none l = walk-from link (sieve-hit (W .sieve) h (W .hit h) none l)
 
--- ---- the start and the end
+-- ---- from level to level
 
-pub sieve-start : {rows : List ℕ} {keep : List Bool} {low high : ℕ} (mins : List ℕ) → Spans rows zero low high → Marks rows keep zero zero → Sieve rows keep mins zero low zero
-sieve-start {rows} {keep} {low} mins P M = record {
-  marks = marks-moved rows keep zero zero low zero (λ j b. absurd (nothing j b)) (λ j l c b. absurd (below j l c b)) M;
-  room = omega arith;
-  from = λ m l. absurd (not-suc-le-zero l);
-  cover = λ j l c b. absurd (below j l c b);
+-- the candidates of fewer than k values are judged, and `left` has the sizes of the others
+pub record Levels (rows : List ℕ) (keep : List Bool) (mins : List ℕ) (found left : ℕ) : Type 0 where
+  pub k : ℕ
+  pub sieve : Sieve rows keep mins found k zero
+  pub word : left < 2 ^ 64
+  pub rest : (j : ℕ) → j < length rows → Candidate rows j → (ones (at rows j) < k) ⊎ (has left (ones (at rows j) - 1) ≡ true)
+  pub far : (v : ℕ) → has left v ≡ true → k ≤ v + 1
+
+pub levels-start : {rows : List ℕ} {keep : List Bool} {sizes : ℕ} (mins : List ℕ) → Sizes rows zero sizes → Marks rows keep zero zero → Levels rows keep mins zero sizes
+levels-start {rows} mins Z M = record {
+  k = zero;
+  sieve = record { marks = M; room = omega arith; from = λ m l. absurd (not-suc-le-zero l); cover = λ j l c b. absurd (nothing j b) };
+  word = Z .word;
+  rest = λ j l c. inr (Z .all j (omega arith) l c);
+  far = λ v h. omega arith;
 }
   where
     nothing : (j : ℕ) → Before rows zero zero j → ⊥
     nothing j (inl h) = not-suc-le-zero h
     nothing j (inr h) = not-suc-le-zero (h .1)
 
-    below : (j : ℕ) → j < length rows → Candidate rows j → Before rows low zero j → ⊥
-    below j l c (inl h) = omega (arith, P .least j (omega arith) l c)
-    below j l c (inr h) = not-suc-le-zero (h .1)
+module _ {rows : List ℕ} {keep : List Bool} {mins : List ℕ} {found left : ℕ} (L : Levels rows keep mins found left) where
+  pub levels-done : left ≡ zero → keep ≡ firsts rows
+  levels-done z = ext-getD false keep (firsts rows) (L .sieve .marks .long ∙ sym (length-firsts rows)) same
+    where
+      same : (j : ℕ) → j < length keep → marked keep j ≡ marked (firsts rows) j
+      same j l =
+          let n : j < length rows = omega (arith, L .sieve .marks .long) in
+          L .sieve .marks .right j n (λ c. elim (L .rest j n c) [ inl h ↦ inl h | inr h ↦ absurd (not-both h (ap (λ (x : ℕ). has x (ones (at rows j) - 1)) z ∙ has-empty (ones (at rows j) - 1))) ])
 
-pub sieve-done : {rows : List ℕ} {keep : List Bool} {mins : List ℕ} {found k low high : ℕ} → Spans rows zero low high → high < k → Sieve rows keep mins found k zero → keep ≡ firsts rows
-sieve-done {rows} {keep} P h S = ext-getD false keep (firsts rows) (S .marks .long ∙ sym (length-firsts rows)) same
-  where
-    same : (j : ℕ) → j < length keep → marked keep j ≡ marked (firsts rows) j
-    same j l =
-        let n : j < length rows = omega (arith, S .marks .long) in
-        S .marks .right j n (λ c. inl (omega (arith, P .most j (omega arith) n c)))
+  -- v is the lowest size left
+  module _ (full : NoneEmpty rows) {v : ℕ} (is : v ≡ trailingZeros 64 left) (ne : left ≢ zero) where
+    lowest : (v < 64) × (has left v ≡ true)
+    lowest = subst (λ (x : ℕ). (x < 64) × (has left x ≡ true)) (sym is) (lowest-has 64 left (L .word) ne)
+
+    least : (u : ℕ) → has left u ≡ true → v ≤ u
+    least u h = omega (arith, is, lowest-least 64 left u h)
+
+    pub level-small : v + 1 < 65
+    level-small = omega (arith, lowest .0)
+
+    pub level-less : (rest : ℕ) → rest ≡ minus left (single (trailingZeros 64 left)) → rest < left
+    level-less rest e = omega (arith, e ∙ ap (λ (x : ℕ). minus left (single x)) (sym is), without-less left v (lowest .1))
+
+    -- its rows are next
+    pub level-sieve : Sieve rows keep mins found (v + 1) zero
+    level-sieve = sieve-moved rows keep (L .k) zero (v + 1) zero to back mins found (L .sieve)
+      where
+        to : (j : ℕ) → Before rows (L .k) zero j → Before rows (v + 1) zero j
+        to j (inl h) = inl (omega (arith, h, L .far v (lowest .1)))
+        to j (inr h) = absurd (not-suc-le-zero (h .1))
+
+        back : (j : ℕ) → j < length rows → Candidate rows j → Before rows (v + 1) zero j → Before rows (L .k) zero j
+        back j l c (inr h) = absurd (not-suc-le-zero (h .1))
+        back j l c (inl h) = elim (L .rest j l c) [ inl b ↦ inl b | inr t ↦ absurd (omega (arith, h, least (ones (at rows j) - 1) t, some-ones (at rows j) (full j l))) ]
+
+    -- and then judged
+    pub level-judged : {keep′ : List Bool} {mins′ : List ℕ} {found′ : ℕ} (rest : ℕ) → rest ≡ minus left (single (trailingZeros 64 left)) → Sieve rows keep′ mins′ found′ (v + 1 + 1) zero → Levels rows keep′ mins′ found′ rest
+    level-judged {keep′} {mins′} {found′} rest e S = subst (Levels rows keep′ mins′ found′) (sym (e ∙ ap (λ (x : ℕ). minus left (single x)) (sym is))) (record {
+      k = v + 1 + 1;
+      sieve = S;
+      word = minus-word 64 left (single v) (L .word);
+      rest = λ j l c. elim (L .rest j l c) [
+        | inl h ↦ inl (omega (arith, h, L .far v (lowest .1)))
+        | inr h ↦ elim (true-or-false (has (single v) (ones (at rows j) - 1))) [
+          | inl q ↦ inl (omega (arith, single-only v (ones (at rows j) - 1) q))
+          | inr n ↦ inr (minus-in left (single v) (ones (at rows j) - 1) h n)
+        ]
+      ];
+      far = λ u h. let t = minus-out left (single v) u h in elim (ℕ-discrete u v) [
+        | yes q ↦ absurd (not-both (ap (has (single v)) q ∙ has-same v) (t .1))
+        | no other ↦ let l = least u (t .0) in omega (arith, other, l)
+      ];
+    })

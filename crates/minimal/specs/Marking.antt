@@ -1,6 +1,6 @@
 -- What the contracts say while the minimal rows of a view are marked: which values are rows of their own, how the other rows are chained,
 -- and which rows are judged. The marks they come to are `firsts` (document 01, 'Which rows DISTINCT keeps').
-use Prim.Native.Nat.{ℕ, zero, suc, _+_, _/_, _%_, _≤_, _<_}
+use Prim.Native.Nat.{ℕ, zero, suc, _+_, _-_, _/_, _%_, _^_, _≤_, _<_}
 use mathlib.Core.Path.{_≡_}
 use mathlib.Core.Logic.{_≢_, _⊎_}
 use mathlib.Core.Bool.{Bool, true, false}
@@ -119,8 +119,7 @@ pub record Chains (rows next head : List ℕ) (t : ℕ) : Type 0 where
   pub heads : (k : ℕ) → k < 65 → FirstFrom rows k t (at head k)
   pub links : (i : ℕ) → t ≤ i → i < length rows → Candidate rows i → FirstFrom rows (ones (at rows i)) (i + 1) (at next i)
 
--- the candidates from place t on have from low to high values
-pub record Spans (rows : List ℕ) (t low high : ℕ) : Type 0 where
-  pub top : high < 65
-  pub least : (j : ℕ) → t ≤ j → j < length rows → Candidate rows j → low ≤ ones (at rows j)
-  pub most : (j : ℕ) → t ≤ j → j < length rows → Candidate rows j → ones (at rows j) ≤ high
+-- s has, for each candidate from place t on, one less than the number of its values
+pub record Sizes (rows : List ℕ) (t s : ℕ) : Type 0 where
+  pub word : s < 2 ^ 64
+  pub all : (j : ℕ) → t ≤ j → j < length rows → Candidate rows j → has s (ones (at rows j) - 1) ≡ true

@@ -7,7 +7,7 @@ ghost use mathlib.Core.Bool.{true, false};
 ghost use Prim.Native.Nat.{zero, _+_, _≤_, _<_};
 ghost use lib.ListN.{length};
 ghost use Rattle.theory.specs.Kept.{firsts};
-ghost use Rattle.minimal.specs.Marking.{NoMarks, NoneEmpty, IsSingle, Singles, Marks, Scanned, tagOf, hasTag, withTag, ToTest, Repeats, Past, Chains, Spans, Sieve};
+ghost use Rattle.minimal.specs.Marking.{NoMarks, NoneEmpty, IsSingle, Singles, Marks, Scanned, tagOf, hasTag, withTag, ToTest, Repeats, Past, Chains, Sizes, Sieve};
 
 // The row has one value.
 fn is_single(x: u64) -> bool
@@ -111,21 +111,15 @@ fn repeats(rows: &[u64], i: usize) -> bool
     rows[i - 1] == rows[i]
 }
 
-// No chained row has fewer than `low` values or more than `high`.
-struct Span {
-    low: usize,
-    high: usize,
-}
-
 // Chains the rows that have no value of `singles` and are not the same as the row before by how many values they have, in view order:
 // head[k] is the first place with k values, next[i] the next one after i with as many; a number past the view where there is none.
-fn chain(rows: &[u64], singles: u64, next: &mut [usize], head: &mut [u16]) -> Span
-    requires { ⌜ (length (now rows) ≤ 320) × Singles (now rows) (length (now rows)) singles ⌝ }
+// Answers how many values the chained rows have: the set has k - 1 where there are rows of k values.
+fn chain(rows: &[u64], singles: u64, next: &mut [usize], head: &mut [u16]) -> u64
+    requires { ⌜ (length (now rows) ≤ 320) × NoneEmpty (now rows) × Singles (now rows) (length (now rows)) singles ⌝ }
     requires { ⌜ (length (now rows) ≤ length (now next)) × (length (now head) ≡ 65) × Past (now rows) (now head) ⌝ }
-    ensures { λ r. ⌜ Chains (now (rows .entry)) (now (next .exit)) (now (head .exit)) 0 × Spans (now (rows .entry)) 0 (r .low) (r .high) ⌝ }
+    ensures { λ r. ⌜ Chains (now (rows .entry)) (now (next .exit)) (now (head .exit)) 0 × Sizes (now (rows .entry)) 0 r ⌝ }
 {
-    let mut low: usize = 64;
-    let mut high: usize = 0;
+    let mut sizes: u64 = 0;
     let mut left = rows.len();
     while 0 < left {
         left -= 1;
@@ -135,16 +129,11 @@ fn chain(rows: &[u64], singles: u64, next: &mut [usize], head: &mut [u16]) -> Sp
                 let k = u64::count_ones(row) as usize;
                 next[left] = head[k] as usize;
                 head[k] = left as u16;
-                if k < low {
-                    low = k;
-                }
-                if high < k {
-                    high = k;
-                }
+                sizes = sets::with(sizes, k - 1);
             }
         }
     }
-    Span { low, high }
+    sizes
 }
 
 // Judges the chained rows of k values: one that has no subset among the minimal rows found so far is minimal too.
@@ -181,18 +170,17 @@ fn level(
 
 // Judges the rows that have no value of `singles`, few values first. `next` and `mins` are scratch places.
 fn sift(rows: &[u64], singles: u64, keep: &mut [bool], next: &mut [usize], mins: &mut [u64])
-    requires { ⌜ (length (now rows) ≤ 320) × Singles (now rows) (length (now rows)) singles × Marks (now rows) (now keep) 0 0 ⌝ }
+    requires { ⌜ (length (now rows) ≤ 320) × NoneEmpty (now rows) × Singles (now rows) (length (now rows)) singles × Marks (now rows) (now keep) 0 0 ⌝ }
     requires { ⌜ (length (now rows) ≤ length (now next)) × (length (now rows) ≤ length (now mins)) ⌝ }
     ensures { λ _. ⌜ now (keep .exit) ≡ firsts (now (rows .entry)) ⌝ }
 {
     let mut head = [320u16; 65];
-    let span = chain(rows, singles, next, &mut head);
-    let high = span.high;
+    let mut left = chain(rows, singles, next, &mut head);
     let mut found: usize = 0;
-    let mut k = span.low;
-    while k <= high {
+    while left != 0 {
+        let k = sets::lowest(left) + 1;
+        left = sets::rest(left);
         found = level(rows, next, &head, k, keep, mins, found);
-        k += 1;
     }
 }
 

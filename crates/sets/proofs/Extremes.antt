@@ -38,6 +38,19 @@ lowest-has (suc k) n h ne = elim (low-digit n) [
       (omega (arith, is, ih .0), ap (has n) is ∙ has-suc n (trailingZeros k (n / 2)) ∙ ih .1)
 ]
 
+-- no value of the set is lower
+pub lowest-least : (k n v : ℕ) → has n v ≡ true → trailingZeros k n ≤ v
+unfolding trailingZeros
+lowest-least zero n v h = omega arith
+lowest-least (suc k) n v h = elim (low-digit n) [
+  | inr e ↦ subst (λ (x : ℕ). under x (trailingZeros k (n / 2)) ≤ v) (sym (e .0)) (omega arith)
+  | inl e ↦ subst (λ (x : ℕ). under x (trailingZeros k (n / 2)) ≤ v) (sym e) (higher v h e (λ u t. lowest-least k (n / 2) u t))
+]
+  where
+    higher : (v : ℕ) → has n v ≡ true → n % 2 ≡ 0 → ((u : ℕ) → has (n / 2) u ≡ true → trailingZeros k (n / 2) ≤ u) → suc (trailingZeros k (n / 2)) ≤ v
+    higher zero h e rec = absurd (let one : n % 2 ≡ 1 = eqb-true (n % 2) 1 (sym (has-zero n) ∙ h) in omega (arith, one, e))
+    higher (suc u) h e rec = let l = rec u (sym (has-suc n u) ∙ h) in omega (arith, l)
+
 -- ---- a set without its lowest value
 
 -- one less has the lowest value no more, and the higher ones as before

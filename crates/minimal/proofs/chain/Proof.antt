@@ -1,70 +1,51 @@
 -- `minimal::chain` meets its contract. The invariant: the chains lead through the rows from `left` on. Assumes nothing.
-use Prim.Native.Nat.{ℕ, _≤_, _<_, _+_, _-_}
+use Prim.Native.Nat.{zero, _≤_, _<_, _+_, _-_}
 use mathlib.Core.Path.{_≡_, refl, sym, _∙_, subst}
-use mathlib.Core.Logic.{⊎-elim}
 use native.Mathlib.Omega.{arith}
 use lib.Count.{ones, ones-le}
-use lib.ListN.{length, set, length-set}
+use lib.ListN.{length, length-set}
 use borrow.Author.Needs.{needs}
 use borrow.Author.Tests.{not-true, not-false}
 use Rattle.theory.specs.Pairings.{at}
-use Rattle.minimal.specs.Marking.{Chains, Spans, Candidate}
+use Rattle.minimal.specs.Marking.{Chains, Sizes, Candidate}
 use Rattle.minimal.proofs.Apart.{apart-clear, common-not-clear}
-use Rattle.minimal.proofs.Links.{chains-start, spans-start, chains-skip, spans-skip, chains-more, spans-more}
+use Rattle.minimal.proofs.Counts.{some-ones}
+use Rattle.minimal.proofs.Links.{chains-start, sizes-start, chains-skip, sizes-skip, chains-more, sizes-more}
 use Rattle.minimal.proofs.chain.Statement.{statement}
 use Rattle.minimal.proofs.chain.Tie as tie
 use Rattle.minimal.proofs.chain.Reads as reads
 use Rattle.minimal.proofs.chain.Lts as lts
 use Rattle.minimal.proofs.repeats.Reads as repeats-reads
+use Rattle.sets.proofs.with.Reads as with-reads
 
 abbrev Inv-loop : tie.InvT-loop
-Inv-loop rows singles next₀ head₀ low₀ high₀ left₀ next head low high left = Chains rows next head left × Spans rows left low high × (length next ≡ length next₀) × (left ≤ length rows)
+Inv-loop rows singles next₀ head₀ sizes₀ left₀ next head sizes left = Chains rows next head left × Sizes rows left sizes × (length next ≡ length next₀) × (left ≤ length rows)
 
 abbrev μ-loop : tie.MeasureT-loop
-μ-loop rows singles next₀ head₀ low₀ high₀ left₀ next head low high left = left
+μ-loop rows singles next₀ head₀ sizes₀ left₀ next head sizes left = left
 
 -- the row has at most 64 values
 few : (c : tie.After-shared-slice-known2 Inv-loop μ-loop) → ones (at (c .before .before .before .before .before .before .args .rows .now) (c .before .before .loop .left - 1)) ≤ 64
 few c = let l = c .before .before in ones-le 64 (at (c .before .before .before .before .before .before .args .rows .now) (l .loop .left - 1)) (c .shared-slice-known2 .given (l .loop .left - 1) .fits)
 
--- what the loop's invariant says once the row is linked
-abbrev InvAt : tie.Joined3 Inv-loop μ-loop → ℕ → Type 0
-InvAt c high =
-    let l = c .before .before .before .before .before .before .before in
-    let e = c .before .before .before .before .before .before .before .before .before .before .before in
-    let x = at (e .args .rows .now) (l .loop .left - 1) in
-    Inv-loop (e .args .rows .now) (e .args .singles) (e .args .next .now) (e .args .head .now) 64 0 (length (e .args .rows .now)) (set (l .loop .next) (l .loop .left - 1) (at (l .loop .head) (ones x))) (set (l .loop .head) (ones x) (l .loop .left - 1)) (c .if3 .low) high (l .loop .left - 1)
-
--- the row goes in front of its chain; `high` is then at least the number of its values, as `low` is at most that
-linked : (c : tie.Joined3 Inv-loop μ-loop) (high : ℕ) → c .before .before .before .before .before .before .before .loop .high ≤ high → ones (at (c .before .before .before .before .before .before .before .before .before .before .before .args .rows .now) (c .before .before .before .before .before .before .before .loop .left - 1)) ≤ high → high < 65
-    → InvAt c high
-linked c high grown most top =
-    let l = c .before .before .before .before .before .before .before in
-    let e = c .before .before .before .before .before .before .before .before .before .before .before in
-    let h = few (c .before .before .before .before .before) in
-    let one : l .loop .left ≡ (l .loop .left - 1) + 1 = omega (arith, c .before .before .before .before .before .before .loop-test .taken) in
-    let judge : Candidate (e .args .rows .now) (l .loop .left - 1) = record {
-      clear = apart-clear (e .args .rows .now) (e .args .singles) (e .pre .0 .1) (at (e .args .rows .now) (l .loop .left - 1)) (c .before .before .before .before .if1 .taken);
-      new = c .before .before .before .repeats .ensures .1 (not-true _ (c .before .before .if2 .taken));
-    } in
-    let least = ⊎-elim {C = (c .if3 .low ≤ l .loop .low) × (c .if3 .low ≤ ones (at (e .args .rows .now) (l .loop .left - 1)))} (λ w. (omega arith, omega arith)) (λ w. (omega arith, omega arith)) (c .if3 .came) in (
-      chains-more (e .args .rows .now) (l .loop .left) (l .loop .left - 1) one (l .loop .next) (l .loop .head) (l .loop .inv .0) (omega arith) judge (omega arith),
-      spans-more (e .args .rows .now) (l .loop .left) (l .loop .left - 1) one (l .loop .low) (l .loop .high) (c .if3 .low) high (least .0) (least .1) grown most top (l .loop .inv .1),
-      length-set (l .loop .next) (l .loop .left - 1) (at (l .loop .head) (ones (at (e .args .rows .now) (l .loop .left - 1)))) ∙ l .loop .inv .2,
-      omega arith,
-    )
+-- and at least one
+some : (c : tie.After-shared-slice-known2 Inv-loop μ-loop) → zero < ones (at (c .before .before .before .before .before .before .args .rows .now) (c .before .before .loop .left - 1))
+some c =
+    let l = c .before .before in
+    let h : l .loop .left - 1 < length (c .before .before .before .before .before .before .args .rows .now) = omega (arith, l .loop .inv .3, c .before .loop-test .taken) in
+    some-ones (at (c .before .before .before .before .before .before .args .rows .now) (l .loop .left - 1)) (c .before .before .before .before .before .before .pre .0 .1 (l .loop .left - 1) h)
 
 -- a row that is no candidate is left out
 skipped : (c : tie.In-loop Inv-loop μ-loop) → (Candidate (c .before .before .before .before .before .args .rows .now) (c .before .loop .left - 1) → ⊥)
-    → Inv-loop (c .before .before .before .before .before .args .rows .now) (c .before .before .before .before .before .args .singles) (c .before .before .before .before .before .args .next .now) (c .before .before .before .before .before .args .head .now) 64 0 (length (c .before .before .before .before .before .args .rows .now)) (c .before .loop .next) (c .before .loop .head) (c .before .loop .low) (c .before .loop .high) (c .before .loop .left - 1)
+    → Inv-loop (c .before .before .before .before .before .args .rows .now) (c .before .before .before .before .before .args .singles) (c .before .before .before .before .before .args .next .now) (c .before .before .before .before .before .args .head .now) 0 (length (c .before .before .before .before .before .args .rows .now)) (c .before .loop .next) (c .before .loop .head) (c .before .loop .sizes) (c .before .loop .left - 1)
 skipped c dim =
     let l = c .before in
     let e = c .before .before .before .before .before in
     let one : l .loop .left ≡ (l .loop .left - 1) + 1 = omega (arith, c .loop-test .taken) in
-    (chains-skip (e .args .rows .now) (l .loop .left) (l .loop .left - 1) one (l .loop .next) (l .loop .head) dim (l .loop .inv .0), spans-skip (e .args .rows .now) (l .loop .left) (l .loop .left - 1) one (l .loop .low) (l .loop .high) dim (l .loop .inv .1), l .loop .inv .2, omega arith)
+    (chains-skip (e .args .rows .now) (l .loop .left) (l .loop .left - 1) one (l .loop .next) (l .loop .head) dim (l .loop .inv .0), sizes-skip (e .args .rows .now) (l .loop .left) (l .loop .left - 1) one (l .loop .sizes) dim (l .loop .inv .1), l .loop .inv .2, omega arith)
 
 loop-holds : tie.Need-loop-holds Inv-loop μ-loop
-loop-holds c = let e = c .before .before .before in (chains-start (e .args .rows .now) (e .args .next .now) (e .args .head .now) (e .pre .1 .0) (e .pre .1 .1) (e .pre .1 .2), spans-start (e .args .rows .now), refl, omega arith)
+loop-holds c = let e = c .before .before .before in (chains-start (e .args .rows .now) (e .args .next .now) (e .args .head .now) (e .pre .1 .0) (e .pre .1 .1) (e .pre .1 .2), sizes-start (e .args .rows .now), refl, omega arith)
 
 sub-left : tie.Need-sub-left Inv-loop μ-loop
 sub-left c = search needs
@@ -105,32 +86,45 @@ mul-head c = record { fits = omega (arith, few (c .before .before .before .befor
 slice-write-head : tie.Need-slice-write-head Inv-loop μ-loop
 slice-write-head c = omega (arith, few (c .before .before .before .before), c .before .before .before .before .before .before .loop .inv .0 .wide)
 
+sub-with : tie.Need-sub-with Inv-loop μ-loop
+sub-with c = omega (arith, some (c .before .before .before .before))
+
+with-requires : tie.Need-with-requires Inv-loop μ-loop
+with-requires c κs = omega (arith, few (c .before .before .before .before), some (c .before .before .before .before))
+
 loop-less : tie.Need-loop-less Inv-loop μ-loop
 loop-less c = search needs
 
 loop-again : tie.Need-loop-again Inv-loop μ-loop
-loop-again c = linked (c .before) (ones (at (c .before .before .before .before .before .before .before .before .before .before .before .before .args .rows .now) (c .before .before .before .before .before .before .before .before .loop .left - 1))) (omega arith) (omega arith) (omega (arith, few (c .before .before .before .before .before .before)))
+loop-again c =
+    let l = c .before .before .before .before .before .before .before in
+    let e = c .before .before .before .before .before .before .before .before .before .before .before in
+    let h = few (c .before .before .before .before .before) in
+    let one : l .loop .left ≡ (l .loop .left - 1) + 1 = omega (arith, c .before .before .before .before .before .before .loop-test .taken) in
+    let judge : Candidate (e .args .rows .now) (l .loop .left - 1) = record {
+      clear = apart-clear (e .args .rows .now) (e .args .singles) (e .pre .0 .2) (at (e .args .rows .now) (l .loop .left - 1)) (c .before .before .before .before .if1 .taken);
+      new = c .before .before .before .repeats .ensures .1 (not-true _ (c .before .before .if2 .taken));
+    } in (
+      chains-more (e .args .rows .now) (l .loop .left) (l .loop .left - 1) one (l .loop .next) (l .loop .head) (l .loop .inv .0) (omega arith) judge (omega arith),
+      subst (Sizes (e .args .rows .now) (l .loop .left - 1)) (sym (c .with .ensures)) (sizes-more (e .args .rows .now) (l .loop .left) (l .loop .left - 1) one (l .loop .sizes) (omega (arith, h, some (c .before .before .before .before .before))) (l .loop .inv .1)),
+      length-set (l .loop .next) (l .loop .left - 1) (at (l .loop .head) (ones (at (e .args .rows .now) (l .loop .left - 1)))) ∙ l .loop .inv .2,
+      omega arith,
+    )
 
 loop-less-2 : tie.Need-loop-less-2 Inv-loop μ-loop
 loop-less-2 c = search needs
 
 loop-again-2 : tie.Need-loop-again-2 Inv-loop μ-loop
-loop-again-2 c = let l = c .before .before .before .before .before .before .before .before in linked (c .before) (l .loop .high) (omega arith) (c .if4 .left) (l .loop .inv .1 .top)
+loop-again-2 c = skipped (c .before .before .before .before) (λ k. k .new (c .before .repeats .ensures .0 (not-false _ (c .if2 .left))))
 
 loop-less-3 : tie.Need-loop-less-3 Inv-loop μ-loop
 loop-less-3 c = search needs
 
 loop-again-3 : tie.Need-loop-again-3 Inv-loop μ-loop
-loop-again-3 c = skipped (c .before .before .before .before) (λ k. k .new (c .before .repeats .ensures .0 (not-false _ (c .if2 .left))))
-
-loop-less-4 : tie.Need-loop-less-4 Inv-loop μ-loop
-loop-less-4 c = search needs
-
-loop-again-4 : tie.Need-loop-again-4 Inv-loop μ-loop
-loop-again-4 c =
+loop-again-3 c =
     let l = c .before .before .before in
     let e = c .before .before .before .before .before .before .before in
-    skipped (c .before .before) (λ k. common-not-clear (e .args .rows .now) (e .args .singles) (e .pre .0 .1) (at (e .args .rows .now) (l .loop .left - 1)) (c .if1 .left) (k .clear))
+    skipped (c .before .before) (λ k. common-not-clear (e .args .rows .now) (e .args .singles) (e .pre .0 .2) (at (e .args .rows .now) (l .loop .left - 1)) (c .if1 .left) (k .clear))
 
 same-length : tie.Need-same-length Inv-loop μ-loop
 same-length c = c .before .loop .inv .2
@@ -143,7 +137,7 @@ returns c =
     let l = c .before in
     let e = c .before .before .before .before .before in
     let all : l .loop .left ≡ 0 = omega arith in
-    (subst (Chains (e .args .rows .now) (l .loop .next) (l .loop .head)) all (l .loop .inv .0), subst (λ t. Spans (e .args .rows .now) t (l .loop .low) (l .loop .high)) all (l .loop .inv .1))
+    (subst (Chains (e .args .rows .now) (l .loop .next) (l .loop .head)) all (l .loop .inv .0), subst (λ t. Sizes (e .args .rows .now) t (l .loop .sizes)) all (l .loop .inv .1))
 
 pub chain-spec : {M : Type 1} → statement M
 chain-spec =
@@ -165,14 +159,14 @@ chain-spec =
     cast-head
     mul-head
     slice-write-head
+    sub-with
+    with-requires
     loop-less
     loop-again
     loop-less-2
     loop-again-2
     loop-less-3
     loop-again-3
-    loop-less-4
-    loop-again-4
     same-length
     same-length-2
     returns)

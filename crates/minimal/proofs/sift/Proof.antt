@@ -1,58 +1,79 @@
--- `minimal::sift` meets its contract. The invariant: the rows of fewer than k values are judged. Assumes nothing.
-use Prim.Native.Nat.{_+_, _-_}
+-- `minimal::sift` meets its contract. The invariant: `left` has the sizes of the rows that are not judged yet. Assumes nothing.
 use mathlib.Core.Path.{_≡_, refl, sym, _∙_}
 use native.Mathlib.Omega.{arith}
 use lib.ListN.{length}
 use borrow.Author.Needs.{needs}
-use Rattle.minimal.specs.Marking.{Sieve}
 use Rattle.minimal.proofs.Links.{heads-past}
-use Rattle.minimal.proofs.Sifting.{sieve-start, sieve-done}
+use Rattle.minimal.proofs.Sifting.{Levels, levels-start, levels-done, level-small, level-less, level-sieve, level-judged}
 use Rattle.minimal.proofs.sift.Statement.{statement}
 use Rattle.minimal.proofs.sift.Tie as tie
+use Rattle.minimal.proofs.sift.Reads as reads
+use Rattle.minimal.proofs.sift.Lts as lts
+use Rattle.minimal.proofs.chain.Reads as chain-reads
+use Rattle.minimal.proofs.level.Reads as level-reads
+use Rattle.sets.proofs.lowest.Reads as lowest-reads
+use Rattle.sets.proofs.rest.Reads as rest-reads
 
 abbrev Inv-loop : tie.InvT-loop
-Inv-loop rows singles keep₀ next mins₀ head high found₀ k₀ keep mins found k = Sieve rows keep mins found k 0 × (length mins ≡ length mins₀)
+Inv-loop rows singles keep₀ next mins₀ head left₀ found₀ keep mins left found = Levels rows keep mins found left × (length mins ≡ length mins₀)
 
 abbrev μ-loop : tie.MeasureT-loop
-μ-loop rows singles keep₀ next mins₀ head high found₀ k₀ keep mins found k = high + 1 - k
+μ-loop rows singles keep₀ next mins₀ head left₀ found₀ keep mins left found = left
 
 slice-aggregate-chain : tie.Need-slice-aggregate-chain Inv-loop μ-loop
 slice-aggregate-chain c = search needs
 
 chain-requires : tie.Need-chain-requires Inv-loop μ-loop
-chain-requires c κs = let e = c .before .before .before .before .before .before in ((e .pre .0 .0, e .pre .0 .1), (e .pre .1 .0, refl, heads-past (e .args .rows .now) (e .pre .0 .0)))
+chain-requires c κs = let e = c .before .before .before .before .before .before in ((e .pre .0 .0, e .pre .0 .1, e .pre .0 .2), (e .pre .1 .0, refl, heads-past (e .args .rows .now) (e .pre .0 .0)))
 
 loop-holds : tie.Need-loop-holds Inv-loop μ-loop
 loop-holds c =
     let o = c .before .before .before .chain in
     let e = c .before .before .before .before .before .before .before .before .before .before in
-    (sieve-start (e .args .mins .now) (o .ensures .1) (e .pre .0 .2), refl)
+    (levels-start (e .args .mins .now) (o .ensures .1) (e .pre .0 .3), refl)
+
+lowest-requires : tie.Need-lowest-requires Inv-loop μ-loop
+lowest-requires c κs = search needs
+
+add-k : tie.Need-add-k Inv-loop μ-loop
+add-k c =
+    let l = c .before .before in
+    let e = c .before .before .before .before .before .before .before .before .before .before .before .before .before in
+    omega (arith, level-small (l .loop .inv .0) (e .pre .0 .1) (c .lowest .ensures) (c .before .loop-test .taken))
+
+rest-requires : tie.Need-rest-requires Inv-loop μ-loop
+rest-requires c κs = search needs
 
 slice-aggregate-level : tie.Need-slice-aggregate-level Inv-loop μ-loop
 slice-aggregate-level c = search needs
 
 level-requires : tie.Need-level-requires Inv-loop μ-loop
 level-requires c κs =
-    let l = c .before .before .before .before .before in
-    let o = l .before .before .before .before .chain in
-    let e = l .before .before .before .before .before .before .before .before .before .before .before in
-    ((omega (arith, o .ensures .1 .top), omega (arith, e .pre .1 .1, l .loop .inv .1), o .ensures .0), l .loop .inv .0)
-
-add-k : tie.Need-add-k Inv-loop μ-loop
-add-k c = search needs
+    let l = c .before .before .before .before .before .before .before in
+    let e = c .before .before .before .before .before .before .before .before .before .before .before .before .before .before .before .before .before .before in
+    let o = c .before .before .before .before .before .before .before .before .before .before .before .chain in
+    let v = c .before .before .before .before .before .lowest .ensures in
+    let some = c .before .before .before .before .before .before .loop-test .taken in
+    ((level-small (l .loop .inv .0) (e .pre .0 .1) v some, omega (arith, e .pre .1 .1, l .loop .inv .1), o .ensures .0), level-sieve (l .loop .inv .0) (e .pre .0 .1) v some)
 
 loop-less : tie.Need-loop-less Inv-loop μ-loop
-loop-less c = search needs
+loop-less c =
+    let l = c .before .before .before .before .before .before .before .before .before .before .before .before in
+    let e = c .before .before .before .before .before .before .before .before .before .before .before .before .before .before .before .before .before .before .before .before .before .before .before in
+    level-less (l .loop .inv .0) (e .pre .0 .1) (c .before .before .before .before .before .before .before .before .before .before .lowest .ensures) (c .before .before .before .before .before .before .before .before .before .before .before .loop-test .taken) _ (c .before .before .before .before .before .before .before .before .before .rest .ensures)
 
 loop-again : tie.Need-loop-again Inv-loop μ-loop
-loop-again c = let o = c .before .before .before .before .level in (o .ensures, o .kept .1 .1 .1 .1 .1 .0 ∙ c .before .before .before .before .before .before .before .before .before .before .loop .inv .1)
+loop-again c =
+    let l = c .before .before .before .before .before .before .before .before .before .before .before .before in
+    let e = c .before .before .before .before .before .before .before .before .before .before .before .before .before .before .before .before .before .before .before .before .before .before .before in
+    let o = c .before .before .before .before .level in
+    (level-judged (l .loop .inv .0) (e .pre .0 .1) (c .before .before .before .before .before .before .before .before .before .before .lowest .ensures) (c .before .before .before .before .before .before .before .before .before .before .before .loop-test .taken) _ (c .before .before .before .before .before .before .before .before .before .rest .ensures) (o .ensures), o .kept .1 .1 .1 .1 .1 .0 ∙ l .loop .inv .1)
 
 same-length : tie.Need-same-length Inv-loop μ-loop
 same-length c =
     let l = c .before in
-    let o = l .before .before .before .before .chain in
-    let e = l .before .before .before .before .before .before .before .before .before .before .before in
-    l .loop .inv .0 .marks .long ∙ sym (e .pre .0 .2 .long)
+    let e = c .before .before .before .before .before .before .before .before .before .before .before .before in
+    l .loop .inv .0 .sieve .marks .long ∙ sym (e .pre .0 .3 .long)
 
 same-length-2 : tie.Need-same-length-2 Inv-loop μ-loop
 same-length-2 c = c .before .before .before .before .before .chain .kept .1 .1 .0
@@ -61,11 +82,7 @@ same-length-3 : tie.Need-same-length-3 Inv-loop μ-loop
 same-length-3 c = c .before .loop .inv .1
 
 returns : tie.Need-returns Inv-loop μ-loop
-returns c =
-    let l = c .before in
-    let o = l .before .before .before .before .chain in
-    let e = l .before .before .before .before .before .before .before .before .before .before .before in
-    sieve-done (o .ensures .1) (c .loop-test .left) (l .loop .inv .0)
+returns c = levels-done (c .before .loop .inv .0) (c .loop-test .left)
 
 pub sift-spec : {M : Type 1} → statement M
 sift-spec =
@@ -76,9 +93,11 @@ sift-spec =
     slice-aggregate-chain
     chain-requires
     loop-holds
+    lowest-requires
+    add-k
+    rest-requires
     slice-aggregate-level
     level-requires
-    add-k
     loop-less
     loop-again
     same-length
