@@ -12,7 +12,7 @@ ghost use Rattle.pairing.specs.Seats.{Entered, Mates, Unreached, Below, 
 use crate::search::search;
 
 // Beside the seats' rows, columns and mates: `d` is how many values the column has, `free` the values below d that have no row,
-// `dead` values that never come free again, `fresh` the values that no row on a seat holds,
+// `dead` values that never come free again, `fresh` values that no row on a seat holds,
 // `heavy` the seats that stand in no column, and those before `entered` are as they should be.
 pub struct Seats {
     pub d: usize,
