@@ -3,21 +3,48 @@ ghost use mathlib.Core.Path.{_≡_};
 ghost use mathlib.Core.List.{_++_};
 ghost use lib.ListN.{length, drop};
 ghost use Rattle.theory.specs.Kept.{kept};
+ghost use Rattle.minimal.specs.Marking.{NoMarks};
 ghost use Rattle.distinct.specs.Asked.{Askable, askable, answered, listed};
+ghost use Rattle.distinct.specs.Steps.{Places};
 use sets::Found;
 
 mod steps; // steps.rt: the two steps, on marks
 mod list; // list.rt: the positions of marks into a lent list
 
+// DISTINCT with places for the steps: `keep` for marks, of which there are none yet, `rows` and `mates` for the seats.
+fn distinct_on(
+    d: usize,
+    view: &[u64],
+    keep: &mut [bool],
+    rows: &mut [u64],
+    mates: &mut [usize],
+    list: &mut [usize],
+) -> usize
+    requires { ⌜ Askable d (now view) (now list) × (length (now keep) ≡ length (now view)) × NoMarks (now keep) ⌝ }
+    requires { ⌜ Places (now view) (now rows) × Places (now view) (now mates) ⌝ }
+    ensures { λ r. ⌜ (r ≡ length (kept d (now (view .entry)))) × (now (list .exit) ≡ kept d (now (view .entry)) ++ drop r (now (list .entry))) ⌝ }
+{
+    steps::settle(d, view, keep, rows, mates);
+    list::list_positions(keep, list)
+}
+
 // DISTINCT for a caller that has checked the view: the kept positions go to the front of the list, which keeps its later places. Answers their number.
+// A small view gets few places: to make them ready is most of its time.
 pub fn distinct(d: usize, view: &[u64], list: &mut [usize]) -> usize
     requires { ⌜ Askable d (now view) (now list) ⌝ }
     ensures { λ r. ⌜ (r ≡ length (kept d (now (view .entry)))) × (now (list .exit) ≡ kept d (now (view .entry)) ++ drop r (now (list .entry))) ⌝ }
 {
     let n = view.len();
+    if n <= 64 {
+        let mut keep = [false; 64];
+        let mut rows = [0u64; 64];
+        let mut mates = [0usize; 64];
+        return distinct_on(d, view, &mut keep[..n], &mut rows, &mut mates, list);
+    }
     let mut keep = [false; 320];
-    steps::settle(d, view, &mut keep[..n]);
-    list::list_positions(&keep[..n], list)
+    let mut rows = [0u64; 320];
+    let mut mates = [0usize; 320];
+    distinct_on(d, view, &mut keep[..n], &mut rows, &mut mates, list)
 }
 
 // What DISTINCT asks of its callers, decided.

@@ -1,5 +1,5 @@
--- `both_steps` meets its contract: the steps work with 64 values, and a column with fewer keeps the same rows. Assumes nothing.
-use mathlib.Core.Path.{sym, ap, _∙_}
+-- `settle` meets its contract: the steps work with 64 values, and a column with fewer keeps the same rows. Assumes nothing.
+use mathlib.Core.Path.{refl, sym, ap, _∙_}
 use native.Mathlib.Omega.{arith}
 use lib.ListN.{length}
 use lib.Seq.{length-take-le}
@@ -7,10 +7,10 @@ use Rattle.theory.specs.Kept.{tries, marks}
 use Rattle.theory.proofs.KeptAnyD.{marks-any}
 use Rattle.distinct.proofs.Start.{column-rows, none-empty}
 use borrow.Author.Needs.{needs}
-use Rattle.distinct.proofs.steps.both_steps.Statement.{statement}
-use Rattle.distinct.proofs.steps.both_steps.Tie as tie
-use Rattle.distinct.proofs.steps.both_steps.Reads as reads
-use Rattle.distinct.proofs.steps.both_steps.Lts as lts
+use Rattle.distinct.proofs.steps.settle.Statement.{statement}
+use Rattle.distinct.proofs.steps.settle.Tie as tie
+use Rattle.distinct.proofs.steps.settle.Reads as reads
+use Rattle.distinct.proofs.steps.settle.Lts as lts
 use Rattle.distinct.proofs.steps.second_step.Reads as second-step-reads
 use Rattle.minimal.proofs.mark_minimal.Reads as mark-minimal-reads
 
@@ -28,23 +28,28 @@ slice-aggregate-second-step c =
     let m = c .before .before .before .before .before .before .before .before .mark-minimal in
     sym (length-take-le 64 (m .last .1 .1 .1 .0) (omega (arith, m .kept .1 .1 .1 .0, e .pre .1 .0 .seats)))
 
+slice-aggregate-second-step-2 : tie.Need-slice-aggregate-second-step-2
+slice-aggregate-second-step-2 c = search needs
+
 slice-relend-prefix-second-step-2 : tie.Need-slice-relend-prefix-second-step-2
 slice-relend-prefix-second-step-2 c = search needs
 
-slice-aggregate-second-step-2 : tie.Need-slice-aggregate-second-step-2
-slice-aggregate-second-step-2 c =
-    let e = c .before .before .before .before .before .before .before .before .before .before .before .before .before .before .before .before .before in
-    let m = c .before .before .before .before .before .before .before .before .before .mark-minimal in
+slice-aggregate-second-step-3 : tie.Need-slice-aggregate-second-step-3
+slice-aggregate-second-step-3 c =
+    let e = c .before .before .before .before .before .before .before .before .before .before .before .before .before .before .before .before .before .before in
+    let m = c .before .before .before .before .before .before .before .before .before .before .mark-minimal in
     sym (length-take-le 64 (m .last .1 .1 .0) (omega (arith, m .kept .1 .1 .0, e .pre .1 .1 .seats)))
 
 second-step-requires : tie.Need-second-step-requires
 second-step-requires c κs =
-    let e = c .before .before .before .before .before .before .before .before .before .before .before .before .before .before .before .before .before in
-    let m = c .before .before .before .before .before .before .before .before .before .mark-minimal in (
-      m .kept .1 .0 ∙ e .pre .0 .1,
-      e .pre .0 .3,
-      length-take-le 64 (m .last .1 .1 .1 .0) (omega (arith, m .kept .1 .1 .1 .0, e .pre .1 .0 .seats)),
-      length-take-le 64 (m .last .1 .1 .0) (omega (arith, m .kept .1 .1 .0, e .pre .1 .1 .seats)),
+    let e = c .before .before .before .before .before .before .before .before .before .before .before .before .before .before .before .before .before .before in
+    let m = c .before .before .before .before .before .before .before .before .before .before .mark-minimal in (
+      (m .kept .1 .0 ∙ e .pre .0 .1, e .pre .0 .3),
+      (
+        length-take-le 64 (m .last .1 .1 .1 .0) (omega (arith, m .kept .1 .1 .1 .0, e .pre .1 .0 .seats)),
+        refl,
+        length-take-le 64 (m .last .1 .1 .0) (omega (arith, m .kept .1 .1 .0, e .pre .1 .1 .seats)),
+      ),
     )
 
 same-length : tie.Need-same-length
@@ -59,19 +64,20 @@ same-length-3 c = search needs
 returns : tie.Need-returns
 unfolding marks
 returns c =
-    let e = c .before .before .before .before .before .before .before .before .before .before .before .before .before .before .before .before .before .before .before .before .before .before .before .before in
-    c .before .before .before .before .before .before .second-step .ensures ∙ ap (tries 64 (e .args .view .now) (length (e .args .view .now)) 0) (c .before .before .before .before .before .before .before .before .before .before .before .before .before .before .before .before .mark-minimal .ensures)
+    let e = c .before .before .before .before .before .before .before .before .before .before .before .before .before .before .before .before .before .before .before .before .before .before .before .before .before .before in
+    c .before .before .before .before .before .before .before .second-step .ensures ∙ ap (tries 64 (e .args .view .now) (length (e .args .view .now)) 0) (c .before .before .before .before .before .before .before .before .before .before .before .before .before .before .before .before .before .before .mark-minimal .ensures)
     ∙ sym (marks-any (e .args .d) 64 (e .pre .0 .3 .column) (e .args .view .now) (column-rows (e .args .d) (e .args .view .now) (e .pre .0 .3)))
 
-pub both-steps-spec : {M : Type 1} → statement M
-both-steps-spec =
+pub settle-spec : {M : Type 1} → statement M
+settle-spec =
     tie.close
     (tie.spec
     mark-minimal-requires
     slice-relend-prefix-second-step
     slice-aggregate-second-step
-    slice-relend-prefix-second-step-2
     slice-aggregate-second-step-2
+    slice-relend-prefix-second-step-2
+    slice-aggregate-second-step-3
     second-step-requires
     same-length
     same-length-2
