@@ -8,7 +8,7 @@ ghost use Rattle.distinct.specs.Steps.{InColumn, Places};
 use pairing::seats::Seats;
 
 // The second step: the marked rows get seats, a largest pairing of them; then the others are tried, and one is kept where it gets a seat.
-// It is one function because the seats would be copied from one to the other, which takes as long as a view of one row.
+// It is one function because seats that go from one to another are copied, which a small view would feel.
 fn second_step(
     d: usize,
     view: &[u64],
