@@ -1,4 +1,6 @@
 // Comparisons counted.
+use crate::number;
+use crate::text;
 
 // How many agree, and how many differ.
 pub struct Tally {
@@ -32,6 +34,23 @@ impl Tally {
                 agree: self.agree,
                 differ: more(self.differ),
             }
+        }
+    }
+
+    // The last line: all agree, or how many do not.
+    pub fn conclude(self) {
+        let agree = self.agree;
+        let differ = self.differ;
+        if differ == 0 {
+            text(b"\nAll ");
+            number(agree);
+            text(b" comparisons agree.\n");
+        } else {
+            text(b"\n");
+            number(differ);
+            text(b" comparisons DIFFER, and ");
+            number(agree);
+            text(b" agree.\n");
         }
     }
 }
