@@ -53,20 +53,3 @@ pub fn compare(tally: Tally, label: &[u8], kind: Kind, ours: u64, wanted: u64) -
     }
     tally.count(same)
 }
-
-// The last line: all agree, or how many do not.
-pub fn conclude(tally: Tally) {
-    let agree = tally.agree;
-    let differ = tally.differ;
-    if differ == 0 {
-        text(b"\nAll ");
-        number(agree);
-        text(b" comparisons agree.\n");
-    } else {
-        text(b"\n");
-        number(differ);
-        text(b" comparisons DIFFER, and ");
-        number(agree);
-        text(b" agree.\n");
-    }
-}

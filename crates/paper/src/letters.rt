@@ -1,15 +1,4 @@
-// Rows, families and marks as the paper writes them.
-
-// The values. In the salary table a is 20k, b is 30k and c is 35k.
-pub const A: u64 = 1;
-
-pub const B: u64 = 2;
-
-pub const C: u64 = 4;
-
-pub const D: u64 = 8;
-
-pub const E: u64 = 16;
+// Marks and families as the paper writes them.
 
 // The marks of single rows, by the paper's numbers.
 pub const ETA_1: u64 = 1;

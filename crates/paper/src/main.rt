@@ -2,7 +2,7 @@
 mod compare; // compare.rt: the one comparison
 mod example; // example.rt: what is shown and compared of every example
 mod large; // large.rt: the request's large views
-mod letters; // letters.rt: rows, families and marks as the paper writes them
+mod letters; // letters.rt: marks and families as the paper writes them
 mod request; // request.rt: the request's views with families
 mod source; // source.rt: the paper's examples
 
@@ -25,5 +25,5 @@ fn main() {
     let t6 = request::p3(t5);
     let t7 = request::p5(t6);
     let t8 = large::large_views(t7);
-    compare::conclude(t8);
+    t8.conclude();
 }

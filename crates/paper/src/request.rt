@@ -3,11 +3,6 @@ use crate::example::kept;
 use crate::example::look;
 use crate::example::look_family;
 use crate::example::look_rows;
-use crate::letters::A;
-use crate::letters::B;
-use crate::letters::C;
-use crate::letters::D;
-use crate::letters::E;
 use crate::letters::ETA_1;
 use crate::letters::ETA_2;
 use crate::letters::ETA_4;
@@ -15,6 +10,11 @@ use crate::letters::only;
 use families::EVERY;
 use show::Names;
 use show::Tally;
+use show::letters::A;
+use show::letters::B;
+use show::letters::C;
+use show::letters::D;
+use show::letters::E;
 use show::text;
 
 // P3: two equal rows are two rows.

@@ -5,10 +5,6 @@ use crate::example::kept;
 use crate::example::look;
 use crate::example::look_family;
 use crate::example::look_rows;
-use crate::letters::A;
-use crate::letters::B;
-use crate::letters::C;
-use crate::letters::D;
 use crate::letters::ETA_1;
 use crate::letters::ETA_2;
 use crate::letters::ETA_3;
@@ -19,6 +15,10 @@ use crate::letters::only;
 use families::EVERY;
 use show::Names;
 use show::Tally;
+use show::letters::A;
+use show::letters::B;
+use show::letters::C;
+use show::letters::D;
 use show::text;
 
 // Two or three of a, b and c: the family of the minimal rows of Example 3.1.

@@ -70,42 +70,20 @@ fn agrees(view: &[u64], n: usize, list: &[usize]) -> bool {
     families::family(view, families::marked(list, n)) == families::family(view, families::EVERY)
 }
 
-// The rows of a view, in letters.
-fn show_rows(view: &[u64]) {
-    let mut next: usize = 0;
-    while next < view.len() {
-        let i = next;
-        next += 1;
-        text(b" ");
-        show::row(show::Names::Letters, view[i]);
-    }
-}
-
-// The numbers of a list.
-fn show_list(list: &[usize]) {
-    let mut next: usize = 0;
-    while next < list.len() {
-        let i = next;
-        next += 1;
-        text(b" ");
-        number(list[i]);
-    }
-}
-
 // A view on which the two differ: its rows and both answers.
 fn show_difference(view: &[u64], n: usize, list: &[usize]) {
     let rule = kept(view);
     let wanted = expected(rule);
     text(b"DIFFERENT on");
-    show_rows(view);
+    show::rows(view);
     text(b"\n  the store answers ");
     number(n);
     text(b", and its list is");
-    show_list(list);
+    show::numbers(list);
     text(b"\n  by definition it is ");
     number(families::size(rule));
     text(b", and the list");
-    show_list(&wanted);
+    show::numbers(&wanted);
     text(b"\n  the fewest rows that will do are ");
     number(families::fewest(view));
     text(b"\n");

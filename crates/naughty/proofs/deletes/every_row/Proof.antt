@@ -1,15 +1,14 @@
--- `second::compare::show_rows` meets its contract. The counter stays within the view. Assumes nothing.
+-- `naughty::deletes::every_row` meets its contract. The counter stays within the rows of the table. Assumes nothing.
 use Prim.Native.Nat.{_≤_, _-_}
-use lib.ListN.{length}
 use borrow.Author.Needs.{needs}
-use Rattle.second.proofs.compare.show_rows.Statement.{statement}
-use Rattle.second.proofs.compare.show_rows.Tie as tie
+use Rattle.naughty.proofs.deletes.every_row.Statement.{statement}
+use Rattle.naughty.proofs.deletes.every_row.Tie as tie
 
 abbrev Inv-loop : tie.InvT-loop
-Inv-loop view next₀ t4 next = next ≤ length view
+Inv-loop words wanted now₀ next₀ t7 now next = next ≤ 6
 
 abbrev μ-loop : tie.MeasureT-loop
-μ-loop view next₀ t4 next = length view - next
+μ-loop words wanted now₀ next₀ t7 now next = 6 - next
 
 loop-holds : tie.Need-loop-holds Inv-loop μ-loop
 loop-holds c = search needs
@@ -23,14 +22,11 @@ slice-aggregate-text c = search needs
 text-requires : tie.Need-text-requires Inv-loop μ-loop
 text-requires c κs = search needs
 
-mul-row : tie.Need-mul-row Inv-loop μ-loop
-mul-row c = search needs
+number-requires : tie.Need-number-requires Inv-loop μ-loop
+number-requires c κs = search needs
 
-shared-slice-read-row : tie.Need-shared-slice-read-row Inv-loop μ-loop
-shared-slice-read-row c = search needs
-
-row-requires : tie.Need-row-requires Inv-loop μ-loop
-row-requires c κs = search needs
+turn-requires : tie.Need-turn-requires Inv-loop μ-loop
+turn-requires c κs = search needs
 
 loop-less : tie.Need-loop-less Inv-loop μ-loop
 loop-less c = search needs
@@ -41,8 +37,8 @@ loop-again c = search needs
 returns : tie.Need-returns Inv-loop μ-loop
 returns c = search needs
 
-pub show-rows-spec : {M : Type 1} → statement M
-show-rows-spec =
+pub every-row-spec : {M : Type 1} → statement M
+every-row-spec =
     tie.close
     (tie.spec
     Inv-loop
@@ -51,9 +47,8 @@ show-rows-spec =
     add-next
     slice-aggregate-text
     text-requires
-    mul-row
-    shared-slice-read-row
-    row-requires
+    number-requires
+    turn-requires
     loop-less
     loop-again
     returns)

@@ -1,15 +1,15 @@
--- `second::compare::show_list` meets its contract. The counter stays within the list. Assumes nothing.
+-- `show::lists::rows` meets its contract. The counter stays within the view. Assumes nothing.
 use Prim.Native.Nat.{_≤_, _-_}
 use lib.ListN.{length}
 use borrow.Author.Needs.{needs}
-use Rattle.second.proofs.compare.show_list.Statement.{statement}
-use Rattle.second.proofs.compare.show_list.Tie as tie
+use Rattle.show.proofs.lists.rows.Statement.{statement}
+use Rattle.show.proofs.lists.rows.Tie as tie
 
 abbrev Inv-loop : tie.InvT-loop
-Inv-loop list next₀ t4 next = next ≤ length list
+Inv-loop view next₀ t4 next = next ≤ length view
 
 abbrev μ-loop : tie.MeasureT-loop
-μ-loop list next₀ t4 next = length list - next
+μ-loop view next₀ t4 next = length view - next
 
 loop-holds : tie.Need-loop-holds Inv-loop μ-loop
 loop-holds c = search needs
@@ -23,14 +23,14 @@ slice-aggregate-text c = search needs
 text-requires : tie.Need-text-requires Inv-loop μ-loop
 text-requires c κs = search needs
 
-mul-number : tie.Need-mul-number Inv-loop μ-loop
-mul-number c = search needs
+mul-row : tie.Need-mul-row Inv-loop μ-loop
+mul-row c = search needs
 
-shared-slice-read-number : tie.Need-shared-slice-read-number Inv-loop μ-loop
-shared-slice-read-number c = search needs
+shared-slice-read-row : tie.Need-shared-slice-read-row Inv-loop μ-loop
+shared-slice-read-row c = search needs
 
-number-requires : tie.Need-number-requires Inv-loop μ-loop
-number-requires c κs = search needs
+row-requires : tie.Need-row-requires Inv-loop μ-loop
+row-requires c κs = search needs
 
 loop-less : tie.Need-loop-less Inv-loop μ-loop
 loop-less c = search needs
@@ -41,8 +41,8 @@ loop-again c = search needs
 returns : tie.Need-returns Inv-loop μ-loop
 returns c = search needs
 
-pub show-list-spec : {M : Type 1} → statement M
-show-list-spec =
+pub rows-spec : {M : Type 1} → statement M
+rows-spec =
     tie.close
     (tie.spec
     Inv-loop
@@ -51,9 +51,9 @@ show-list-spec =
     add-next
     slice-aggregate-text
     text-requires
-    mul-number
-    shared-slice-read-number
-    number-requires
+    mul-row
+    shared-slice-read-row
+    row-requires
     loop-less
     loop-again
     returns)

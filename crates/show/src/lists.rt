@@ -1,0 +1,27 @@
+// Rows and numbers in a line, each after a space.
+use crate::names::Names;
+use crate::names::row;
+use crate::number;
+use crate::text;
+
+// The rows of a view, in letters.
+pub fn rows(view: &[u64]) {
+    let mut next: usize = 0;
+    while next < view.len() {
+        let i = next;
+        next += 1;
+        text(b" ");
+        row(Names::Letters, view[i]);
+    }
+}
+
+// The numbers of a list.
+pub fn numbers(list: &[usize]) {
+    let mut next: usize = 0;
+    while next < list.len() {
+        let i = next;
+        next += 1;
+        text(b" ");
+        number(list[i]);
+    }
+}
