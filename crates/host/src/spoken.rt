@@ -1,12 +1,11 @@
 // Calls and answers as plain numbers.
 ghost use mathlib.Core.Path.{_≡_};
-ghost use Rattle.store.specs.Answers.{number, row};
 ghost use Rattle.host.specs.Spoken.{askedBy, toldOf};
 use sheet::Sheet;
 use store::Answer;
 use store::Call;
-use store::Refusal;
 use store::Target;
+use store::refusals;
 
 // The refusal number, 0 where the call is accepted, and the values that the answer returns, 0 where it has none.
 #[repr(C)]
@@ -57,46 +56,6 @@ pub fn heard(kind: u64, n: u64) -> Asked
     Asked::Nothing
 }
 
-fn number(refusal: Refusal) -> u64
-    ensures { λ r. ⌜ r ≡ number refusal ⌝ }
-{
-    match refusal {
-        Refusal::TooLarge => 1,
-        Refusal::BadRow(_) => 2,
-        Refusal::Unsound => 3,
-        Refusal::OtherTable => 4,
-        Refusal::NoDesk => 5,
-        Refusal::NoRow => 6,
-        Refusal::HiddenAlready => 7,
-        Refusal::BadSet => 8,
-        Refusal::Full => 9,
-        Refusal::NoRoom => 10,
-        Refusal::ShortList => 11,
-        Refusal::LongView => 12,
-        Refusal::BadDesks => 13,
-    }
-}
-
-fn row(refusal: Refusal) -> u64
-    ensures { λ r. ⌜ r ≡ row refusal ⌝ }
-{
-    match refusal {
-        Refusal::TooLarge => 0,
-        Refusal::BadRow(i) => i as u64,
-        Refusal::Unsound => 0,
-        Refusal::OtherTable => 0,
-        Refusal::NoDesk => 0,
-        Refusal::NoRow => 0,
-        Refusal::HiddenAlready => 0,
-        Refusal::BadSet => 0,
-        Refusal::Full => 0,
-        Refusal::NoRoom => 0,
-        Refusal::ShortList => 0,
-        Refusal::LongView => 0,
-        Refusal::BadDesks => 0,
-    }
-}
-
 pub fn tell(answer: Answer) -> Told
     ensures { λ r. ⌜ r ≡ toldOf answer ⌝ }
 {
@@ -122,8 +81,8 @@ pub fn tell(answer: Answer) -> Told
             second: 0,
         },
         Answer::Refused(refusal) => Told {
-            refusal: number(refusal),
-            first: row(refusal),
+            refusal: refusals::number(refusal) as u64,
+            first: refusals::row(refusal) as u64,
             second: 0,
         },
     }

@@ -6,6 +6,7 @@ ghost use Rattle.store.specs.Calls.{begun, changed, replied, told};
 ghost use Rattle.store.specs.Serving.{Possible};
 use sheet::Sheet;
 
+pub mod refusals; // refusals.rt: the refusals by number
 mod table; // table.rt: refusals 1 and 2
 mod view; // view.rt: what a desk sees
 mod desk; // desk.rt: refusals 4 to 12, and the answers

@@ -4,30 +4,7 @@ use show::number;
 use show::text;
 use store::Answer;
 use store::Refusal;
-
-// The request's number of a refusal.
-fn number_of(why: Refusal) -> usize {
-    match why {
-        Refusal::TooLarge => 1,
-        Refusal::BadRow(_) => 2,
-        Refusal::Unsound => 3,
-        Refusal::OtherTable => 4,
-        Refusal::NoDesk => 5,
-        Refusal::NoRow => 6,
-        Refusal::HiddenAlready => 7,
-        Refusal::BadSet => 8,
-        Refusal::Full => 9,
-        Refusal::NoRoom => 10,
-        Refusal::ShortList => 11,
-        Refusal::LongView => 12,
-        Refusal::BadDesks => 13,
-    }
-}
-
-// The row number that a refusal returns.
-fn row_of(why: Refusal) -> usize {
-    if let Refusal::BadRow(i) = why { i } else { 0 }
-}
+use store::refusals;
 
 // An answer in numbers, for answers can't be compared as they are: its kind, and up to two values.
 struct Spelt {
@@ -60,8 +37,8 @@ fn spell(answer: Answer) -> Spelt {
         },
         Answer::Refused(why) => Spelt {
             kind: 4,
-            first: number_of(why),
-            second: row_of(why),
+            first: refusals::number(why),
+            second: refusals::row(why),
         },
     }
 }
@@ -76,7 +53,7 @@ pub fn same(a: Answer, b: Answer) -> bool {
 // A refusal by its number, and refusal 2 with its row.
 fn say_refusal(why: Refusal) {
     text(b"refused with ");
-    number(number_of(why));
+    number(refusals::number(why));
     if let Refusal::BadRow(i) = why {
         text(b" at row ");
         number(i);
