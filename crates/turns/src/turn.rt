@@ -6,12 +6,13 @@ use sheet::Sheet;
 use show::text;
 use store::Answer;
 use store::Call;
+use store::Reply;
 
 // A list with a place for every row of the longest view.
 pub const PLENTY: usize = Sheet::VIEW;
 
 // What stands in each place of the list before the call: no position of any view.
-const LENT: usize = 999;
+pub const LENT: usize = 999;
 
 // The answer, the sheet for the next call, whether it is another than the one handed in, and the list after the call.
 pub struct Turn {
@@ -22,17 +23,14 @@ pub struct Turn {
 }
 
 // How many places are lent: as many as asked for, where there are so many.
-fn lent(places: usize) -> usize
+pub fn lent(places: usize) -> usize
     ensures { λ r. ⌜ r ≤ 320 ⌝ }
 {
     if places < PLENTY { places } else { PLENTY }
 }
 
-// The desk makes the call and lends so many places of a list.
-pub fn call(table: &[u64], d: usize, sheet: Sheet, desk: usize, call: Call, places: usize) -> Turn {
-    let mut list = [LENT; PLENTY];
-    let many = lent(places);
-    let reply = store::desk_call(table, d, sheet, desk, call, &mut list[..many]);
+// What came of a call on the sheet.
+pub fn came(sheet: Sheet, reply: Reply, list: [usize; PLENTY]) -> Turn {
     let answer = reply.answer;
     let after = reply.sheet;
     let moved = !sheets::same(sheet, after);
@@ -42,6 +40,14 @@ pub fn call(table: &[u64], d: usize, sheet: Sheet, desk: usize, call: Call, plac
         moved,
         list,
     }
+}
+
+// The desk makes the call and lends so many places of a list.
+pub fn call(table: &[u64], d: usize, sheet: Sheet, desk: usize, call: Call, places: usize) -> Turn {
+    let mut list = [LENT; PLENTY];
+    let many = lent(places);
+    let reply = store::desk_call(table, d, sheet, desk, call, &mut list[..many]);
+    came(sheet, reply, list)
 }
 
 // What place i of the list should hold: a position, or what was lent.
@@ -60,6 +66,22 @@ fn lists(list: &[usize], kept: &[usize]) -> bool {
         }
     }
     true
+}
+
+// The same positions in every place.
+fn same_lists(a: &[usize], b: &[usize]) -> bool {
+    let mut next: usize = 0;
+    while next < a.len() {
+        let i = next;
+        next += 1;
+        if b.len() <= i {
+            return false;
+        }
+        if a[i] != b[i] {
+            return false;
+        }
+    }
+    a.len() == b.len()
 }
 
 // Only what is answered with `done` may move the sheet.
@@ -107,6 +129,23 @@ impl Turn {
     pub fn gives(self, wanted: Answer) -> bool {
         let none = [0usize; 1];
         self.lists(wanted, &none[..0])
+    }
+
+    // The two turns came to the same: answer, sheet and list.
+    pub fn same(self, other: Turn) -> bool {
+        let answer = self.answer;
+        let others = other.answer;
+        if !answers::same(answer, others) {
+            return false;
+        }
+        let sheet = self.sheet;
+        let altered = other.sheet;
+        if !sheets::same(sheet, altered) {
+            return false;
+        }
+        let list = self.list;
+        let listed = other.list;
+        same_lists(&list, &listed)
     }
 
     // What came, in words: for a turn that is not as it should be.

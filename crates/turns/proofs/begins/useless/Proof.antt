@@ -1,4 +1,4 @@
--- `lesson::begins::useless` meets its contract. The counter stays within the kinds of calls. Assumes nothing.
+-- `turns::begins::useless` meets its contract. The counter stays within the kinds of calls. Assumes nothing.
 use Prim.Native.Nat.{_≤_, _-_}
 use borrow.Author.Needs.{needs}
 use Rattle.turns.proofs.begins.useless.Statement.{statement}

@@ -1,4 +1,4 @@
--- `lesson::filling::fill` meets its contract. The counter stays within the hundred. Assumes nothing.
+-- `turns::filling::fill` meets its contract. The counter stays within the hundred. Assumes nothing.
 use Prim.Native.Nat.{_≤_, _-_}
 use borrow.Author.Needs.{needs}
 use Rattle.turns.proofs.filling.fill.Statement.{statement}

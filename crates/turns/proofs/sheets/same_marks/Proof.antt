@@ -1,4 +1,4 @@
--- `lesson::sheets::same_marks` meets its contract. The counter stays within the marks. Assumes nothing.
+-- `turns::sheets::same_marks` meets its contract. The counter stays within the marks. Assumes nothing.
 use Prim.Native.Nat.{_≤_, _-_}
 use borrow.Author.Needs.{needs}
 use Rattle.turns.proofs.sheets.same_marks.Statement.{statement}

@@ -1,4 +1,4 @@
--- `lesson::sheets::same_places` meets its contract. The counter stays within the places. Assumes nothing.
+-- `turns::sheets::same_places` meets its contract. The counter stays within the places. Assumes nothing.
 use Prim.Native.Nat.{_≤_, _-_}
 use borrow.Author.Needs.{needs}
 use Rattle.turns.proofs.sheets.same_places.Statement.{statement}

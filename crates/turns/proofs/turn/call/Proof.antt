@@ -1,4 +1,4 @@
--- `lesson::turn::call` meets its contract. A part of the list is as long as it is said to be. Assumes nothing.
+-- `turns::turn::call` meets its contract. A part of the list is as long as it is said to be. Assumes nothing.
 use native.Mathlib.Omega.{arith}
 use lib.ListN.{length-take}
 use borrow.Author.Needs.{needs}
@@ -17,8 +17,8 @@ slice-aggregate-desk-call c = simp length-take (omega arith)
 desk-call-requires : tie.Need-desk-call-requires
 desk-call-requires c κs = search needs
 
-same-requires : tie.Need-same-requires
-same-requires c κs = search needs
+came-requires : tie.Need-came-requires
+came-requires c κs = search needs
 
 returns : tie.Need-returns
 returns c = search needs
@@ -31,5 +31,5 @@ call-spec =
     array-borrow-prefix-list
     slice-aggregate-desk-call
     desk-call-requires
-    same-requires
+    came-requires
     returns)

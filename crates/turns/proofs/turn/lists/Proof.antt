@@ -1,4 +1,4 @@
--- `lesson::turn::lists` meets its contract. The counter stays within the list. Assumes nothing.
+-- `turns::turn::lists` meets its contract. The counter stays within the list. Assumes nothing.
 use Prim.Native.Nat.{_≤_, _-_}
 use lib.ListN.{length}
 use borrow.Author.Needs.{needs}

@@ -1,4 +1,4 @@
--- `lesson::turn::say_first` meets its contract. The first places of the list are as many as is said. Assumes nothing.
+-- `turns::turn::say_first` meets its contract. The first places of the list are as many as is said. Assumes nothing.
 use native.Mathlib.Omega.{arith}
 use lib.ListN.{length-take}
 use borrow.Author.Needs.{needs}
