@@ -7,6 +7,7 @@ ghost use Rattle.minimal.specs.Marking.{NoMarks};
 ghost use Rattle.distinct.specs.Asked.{Askable, askable, answered, listed};
 ghost use Rattle.distinct.specs.Steps.{Places};
 use sets::Found;
+use sheet::Sheet;
 
 mod steps; // steps.rt: the two steps, on marks
 mod list; // list.rt: the positions of marks into a lent list
@@ -35,15 +36,15 @@ pub fn distinct(d: usize, view: &[u64], list: &mut [usize]) -> usize
     ensures { λ r. ⌜ (r ≡ length (kept d (now (view .entry)))) × (now (list .exit) ≡ kept d (now (view .entry)) ++ drop r (now (list .entry))) ⌝ }
 {
     let n = view.len();
-    if n <= 64 {
-        let mut keep = [false; 64];
-        let mut rows = [0u64; 64];
-        let mut mates = [0usize; 64];
+    if n <= Sheet::VALUES {
+        let mut keep = [false; Sheet::VALUES];
+        let mut rows = [0u64; Sheet::VALUES];
+        let mut mates = [0usize; Sheet::VALUES];
         return distinct_on(d, view, &mut keep[..n], &mut rows, &mut mates, list);
     }
-    let mut keep = [false; 320];
-    let mut rows = [0u64; 320];
-    let mut mates = [0usize; 320];
+    let mut keep = [false; Sheet::VIEW];
+    let mut rows = [0u64; Sheet::VIEW];
+    let mut mates = [0usize; Sheet::VIEW];
     distinct_on(d, view, &mut keep[..n], &mut rows, &mut mates, list)
 }
 
@@ -54,10 +55,10 @@ fn may_ask(d: usize, view: &[u64], places: usize) -> bool
     if d == 0 {
         return false;
     }
-    if 64 < d {
+    if Sheet::VALUES < d {
         return false;
     }
-    if 320 < view.len() {
+    if Sheet::VIEW < view.len() {
         return false;
     }
     if places < view.len() {

@@ -6,6 +6,7 @@ ghost use Rattle.theory.specs.Kept.{marks, tries};
 ghost use Rattle.minimal.specs.Marking.{NoMarks};
 ghost use Rattle.distinct.specs.Steps.{InColumn, Places};
 use pairing::seats::Seats;
+use sheet::Sheet;
 
 // The second step: the marked rows get seats, a largest pairing of them; then the others are tried, and one is kept where it gets a seat.
 // It is one function because seats that go from one to another are copied, which a small view would feel.
@@ -75,13 +76,13 @@ pub fn settle(d: usize, view: &[u64], keep: &mut [bool], rows: &mut [u64], mates
     ensures { λ _. ⌜ now (keep .exit) ≡ marks d (now (view .entry)) ⌝ }
 {
     minimal::mark_minimal(view, keep, mates, rows);
-    let mut columns = [0u64; 64];
+    let mut columns = [0u64; Sheet::VALUES];
     second_step(
         d,
         view,
         keep,
-        &mut rows[..64],
+        &mut rows[..Sheet::VALUES],
         &mut columns,
-        &mut mates[..64],
+        &mut mates[..Sheet::VALUES],
     );
 }

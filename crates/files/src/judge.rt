@@ -11,6 +11,7 @@ use crate::Fault;
 use crate::Lesson;
 use crate::numbers;
 use sets::Found;
+use sheet::Sheet;
 
 // The rows of a file that has them all: refusals 26 and 27.
 fn judge_rows(file: &[u8], d: usize, t: usize) -> Lesson
@@ -49,11 +50,11 @@ pub fn judge(file: &[u8]) -> Lesson
     if d == 0 {
         return Lesson::Refused(Fault::BadValues);
     }
-    if 64 < d {
+    if Sheet::VALUES < d {
         return Lesson::Refused(Fault::BadValues);
     }
     let t = numbers::number(file, 6, 2) as usize;
-    if 256 < t {
+    if Sheet::ROWS < t {
         return Lesson::Refused(Fault::ManyRows);
     }
     if file.len() < 8 + 8 * t {
