@@ -1,7 +1,8 @@
 /* Measures the proved desk calls against the unproved ones of class_peer.c, in one process, on a full class: 32 desks,
    512 places, 256 table rows. First both must answer the same and leave the same sheets and lists, over long drawn
-   lessons with damaged sheets among them; then the times of a call are printed, beside C that hands back a sheet as the
-   request asks (a copy and a call in place) and beside C in place alone. */
+   lessons with damaged sheets among them; then the times of a call are printed: of the calls that hand back a sheet, as
+   the request asks, beside C that does so (a copy and a call in place), and of the calls in place beside C in place.
+   Before each call in place the sheet is copied anew, on both sides, and the time of the copy is taken off. */
 #define _POSIX_C_SOURCE 200809L
 #include "class_peer.h"
 
@@ -48,18 +49,22 @@ static void fail(const char *what)
     exit(1);
 }
 
-/* One call on both sides. The sheet becomes what ours hands back. */
+/* One call on both sides, and on ours in both ways. The sheet becomes what ours hands back. */
 static void turn(const uint64_t *table, size_t rows, size_t d, foliokettle_sheet *sheet, size_t desk, uint64_t kind,
                  uint64_t n, size_t places)
 {
-    static size_t ours[PLACES + 8], theirs[PLACES + 8];
-    foliokettle_sheet in_place = *sheet;
-    for (size_t i = 0; i < PLACES + 8; i++) ours[i] = theirs[i] = 1000 + i;
+    static size_t ours[PLACES + 8], altered[PLACES + 8], theirs[PLACES + 8];
+    foliokettle_sheet ours_in_place = *sheet, in_place = *sheet;
+    for (size_t i = 0; i < PLACES + 8; i++) ours[i] = altered[i] = theirs[i] = 1000 + i;
     foliokettle_handed handed = foliokettle_call(table, rows, d, *sheet, desk, kind, n, ours, places);
+    foliokettle_told ours_told = foliokettle_alter(&ours_in_place, table, rows, d, desk, kind, n, altered, places);
     foliokettle_told told = peer_call(table, rows, d, &in_place, desk, kind, n, theirs, places);
     if (memcmp(&handed.told, &told, sizeof told) != 0) fail("answers");
     if (memcmp(&handed.sheet, &in_place, sizeof in_place) != 0) fail("sheets");
     if (memcmp(ours, theirs, sizeof ours) != 0) fail("lists");
+    if (memcmp(&handed.told, &ours_told, sizeof ours_told) != 0) fail("our answers in place");
+    if (memcmp(&handed.sheet, &ours_in_place, sizeof ours_in_place) != 0) fail("our sheets in place");
+    if (memcmp(ours, altered, sizeof ours) != 0) fail("our lists in place");
     *sheet = handed.sheet;
 }
 
@@ -135,6 +140,13 @@ static void copy_only(const measured *m)
     sink += after.used + m->n;
 }
 
+static void altered_call(const measured *m)
+{
+    memcpy(&after, &start, sizeof after);
+    foliokettle_told told = foliokettle_alter(&after, table, ROWS, 64, m->desk, m->kind, m->n, list, PLACES);
+    sink += told.first + after.used;
+}
+
 static void copied_call(const measured *m)
 {
     memcpy(&after, &start, sizeof after);
@@ -151,18 +163,20 @@ static double once(void (*side)(const measured *), const measured *m, size_t tim
 
 static void measure(const measured *m)
 {
-    double ours = 1e18, copied = 1e18, copy = 1e18;
+    double ours = 1e18, altered = 1e18, copied = 1e18, copy = 1e18;
     start = full;
     if (m->drop) turn(table, ROWS, 64, &start, m->desk, FOLIOKETTLE_DELETE_OWN, 0, 0);
     size_t times = (size_t)(ROUND_NS / (1 + once(ours_call, m, 20))) + 1;
     for (int round = 0; round < ROUNDS; round++) {
-        double a = once(ours_call, m, times), b = once(copied_call, m, times), c = once(copy_only, m, times);
+        double a = once(ours_call, m, times), b = once(altered_call, m, times);
+        double c = once(copied_call, m, times), e = once(copy_only, m, times);
         if (a < ours) ours = a;
-        if (b < copied) copied = b;
-        if (c < copy) copy = c;
+        if (b < altered) altered = b;
+        if (c < copied) copied = c;
+        if (e < copy) copy = e;
     }
-    printf("| %-28s | %6.0f | %6.0f | %5.2f | %6.0f | %5.2f |\n", m->name, ours, copied, ours / copied, copied - copy,
-           ours / (copied - copy));
+    printf("| %-28s | %6.0f | %6.0f | %5.2f | %6.0f | %6.0f | %5.2f |\n", m->name, ours, copied, ours / copied,
+           altered - copy, copied - copy, (altered - copy) / (copied - copy));
 }
 
 int main(void)
@@ -184,7 +198,8 @@ int main(void)
         {"no such desk", 40, FOLIOKETTLE_COUNT, 0, 0},
     };
     printf("class: nanoseconds of a call on a full class\n");
-    printf("| call                         |   ours | C, hands back | ratio | C in place | ratio |\n|---|---|---|---|---|---|\n");
+    printf("| call                         | ours, hands back | C, hands back | ratio | ours in place | C in place | ratio |\n");
+    printf("|---|---|---|---|---|---|---|\n");
     for (size_t i = 0; i < sizeof calls / sizeof calls[0]; i++) {
         measured m = calls[i];
         if (m.kind == FOLIOKETTLE_LOOK) {

@@ -1,5 +1,5 @@
 /* A small class server in C: it begins a class of two desks on a table of four cells, lets both play, and prints what
-   each is told. The sheet is all that it keeps. */
+   each is told. The sheet is all that it keeps, and each call alters it in place. */
 #include "../include/foliokettle.h"
 
 #include <stdio.h>
@@ -19,13 +19,12 @@ static void print_set(uint64_t set)
     printf("}");
 }
 
-/* One call of a desk. What it is told is printed; the sheet handed back is kept for the next call. */
+/* One call of a desk on the class's sheet. What it is told is printed. */
 static void play(foliokettle_sheet *sheet, size_t desk, uint64_t kind, uint64_t n)
 {
     static const char *const names[] = {"delete table row", "delete own row", "insert", "reset", "look at", "count", "distinct"};
     size_t list[PLACES];
-    foliokettle_handed handed = foliokettle_call(table, ROWS, VALUES, *sheet, desk, kind, n, list, PLACES);
-    *sheet = handed.sheet;
+    foliokettle_told told = foliokettle_alter(sheet, table, ROWS, VALUES, desk, kind, n, list, PLACES);
 
     printf("desk %zu: ", desk);
     if (kind > FOLIOKETTLE_DISTINCT) printf("something else");
@@ -38,17 +37,17 @@ static void play(foliokettle_sheet *sheet, size_t desk, uint64_t kind, uint64_t 
     }
     printf(" - ");
 
-    if (handed.told.refusal == FOLIOKETTLE_NO_CALL) {
+    if (told.refusal == FOLIOKETTLE_NO_CALL) {
         printf("that is no call");
-    } else if (handed.told.refusal != 0) {
-        printf("refused with %llu", (unsigned long long)handed.told.refusal);
+    } else if (told.refusal != 0) {
+        printf("refused with %llu", (unsigned long long)told.refusal);
     } else if (kind == FOLIOKETTLE_LOOK) {
-        print_set(handed.told.first);
+        print_set(told.first);
     } else if (kind == FOLIOKETTLE_COUNT) {
-        printf("%llu rows, %llu of them own", (unsigned long long)handed.told.first, (unsigned long long)handed.told.second);
+        printf("%llu rows, %llu of them own", (unsigned long long)told.first, (unsigned long long)told.second);
     } else if (kind == FOLIOKETTLE_DISTINCT) {
-        printf("keeps %llu:", (unsigned long long)handed.told.first);
-        for (uint64_t i = 0; i < handed.told.first; i++) printf(" %zu", list[i]);
+        printf("keeps %llu:", (unsigned long long)told.first);
+        for (uint64_t i = 0; i < told.first; i++) printf(" %zu", list[i]);
     } else {
         printf("done");
     }

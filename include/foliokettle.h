@@ -7,8 +7,8 @@
 #include <stddef.h>
 #include <stdint.h>
 
-/* The class sheet. It is handed in and handed back; `foliokettle_begin` makes it. Desk k's marks are the four words
-   from 4 k on. */
+/* The class sheet. `foliokettle_begin` makes it; then it is handed in and handed back, or altered in place. Desk k's
+   marks are the four words from 4 k on. */
 typedef struct {
     size_t d, rows, desks, used;
     uint64_t marks[128];
@@ -44,6 +44,10 @@ foliokettle_handed foliokettle_begin(const uint64_t *table, size_t rows, size_t 
 
 foliokettle_handed foliokettle_call(const uint64_t *table, size_t rows, size_t d, foliokettle_sheet sheet, size_t desk,
                                     uint64_t kind, uint64_t n, size_t *list, size_t places);
+
+/* The same for a host that keeps a single sheet: the sheet becomes the one that `foliokettle_call` hands back. */
+foliokettle_told foliokettle_alter(foliokettle_sheet *sheet, const uint64_t *table, size_t rows, size_t d, size_t desk,
+                                   uint64_t kind, uint64_t n, size_t *list, size_t places);
 
 /* DISTINCT over a view that belongs to no desk; SIZE_MAX where it is refused (README). */
 size_t foliokettle_distinct(size_t d, const uint64_t *view, size_t rows, size_t *list, size_t places);

@@ -69,3 +69,22 @@ pub extern "C" fn foliokettle_call(
         }
     }
 }
+
+// The same for a host that keeps a single sheet: the sheet becomes the one that `foliokettle_call` hands back.
+#[no_mangle]
+pub extern "C" fn foliokettle_alter(
+    sheet: &mut Sheet,
+    table: &[u64],
+    d: usize,
+    desk: usize,
+    kind: u64,
+    n: u64,
+    list: &mut [usize],
+) -> Told
+    ensures { λ r. ⌜ (r ≡ handedBy (askedBy kind n) d (now (table .entry)) (now (sheet .entry)) desk (length (now (list .entry))) .told) × (now (sheet .exit) ≡ handedBy (askedBy kind n) d (now (table .entry)) (now (sheet .entry)) desk (length (now (list .entry))) .sheet) × (now (list .exit) ≡ listOf (askedBy kind n) d (now (table .entry)) (now (sheet .entry)) desk (now (list .entry))) ⌝ }
+{
+    let before = *sheet;
+    let handed = foliokettle_call(table, d, before, desk, kind, n, list);
+    *sheet = handed.sheet;
+    handed.told
+}

@@ -15,7 +15,7 @@ pub use prog.Wp.{Heap, Calls, Loops, WpFn, Tables}
 pub use ghost.Atoms.{Atoms, sem}
 pub use contract.Monad.{Fun, fact}
 unfoldable pub use contract.Running.{givenOf, tables, tablesOf}
-pub use types.Kit.{Given, ‵, raw, _⊛_, ⋆, some, later, _$_, _∵_, !, qed, by, move, keep, drop, use1, use2, use3, split, join, pick, rewrite, fsplit, fsplit3, fjoin, fjoin3, feqL, feqI, suffices, frame, await, done, given, learn, fpick, fpack}
+pub use types.Kit.{Given, Item, ‵, raw, _⊛_, ⋆, some, later, _$_, _∵_, !, qed, by, move, keep, drop, use1, use2, use3, split, join, pick, rewrite, fsplit, fsplit3, fjoin, fjoin3, feqL, feqI, suffices, frame, await, done, given, learn, fpick, fpack}
 pub use types.Run.{look, look-raw, init, store-raw, forget, stop, hop, fld, from, load, addr, of-opd, and-then, no-more, assigns, land, returns, enter, alloc1, alloc0, params1, pass1, pass0, free1, free0, lit}
 pub use types.Part.{agg, whole, sub, look-in, store-in}
 pub use types.SemTy.{Body}
