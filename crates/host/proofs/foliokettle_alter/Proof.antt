@@ -15,7 +15,7 @@ use Rattle.walks.proofs.Walk.{says, Stays, stay-ref, stay-none, stay-none-slice
 use Rattle.walks.proofs.Walk.{goes-ref, Walks, ends-at, walked, walk-meets, yes}
 use denote.Struct.Laws as struct
 use Rattle.sheet.specs.declared.Sheet.{Sheet}
-use Rattle.sheet.proofs.Sheet as sheet
+use Rattle.sheet.proofs.Sheet as sheets
 use Rattle.sheet.proofs.Sheet.Laws as sheet-laws
 use Rattle.host.specs.Spoken.{askedBy, handedBy, listOf}
 use Rattle.host.specs.declared.spoken.Told.{Told}
@@ -36,7 +36,7 @@ use Rattle.host.proofs.foliokettle_alter.Code as code
 abbrev stayed : Stays (in-place.ended .signature .params) (in-place.ended .kept)
 stayed =
     let number = stay-none (λ _. usize) yes in
-    (stay-ref (0 ∷ []) tt (plain (λ _. sheet.the-row)), (stay-none-slice (1 ∷ []) tt (plain (λ _. u64)) yes, (number, (number, (number, (number, (gave-slice (2 ∷ []) tt (plain (λ _. usize)), tt)))))))
+    (stay-ref (0 ∷ []) tt (plain (λ _. sheets.the-row)), (stay-none-slice (1 ∷ []) tt (plain (λ _. u64)) yes, (number, (number, (number, (number, (gave-slice (2 ∷ []) tt (plain (λ _. usize)), tt)))))))
 
 -- the contract that the proof cites
 abbrev ByValue : {M : Type 1} (𝓤 : URA M) (H : Heap 𝓤) (A : Atoms 𝓤) (mem : Memory → SProp 𝓤) (run : Routine → Fun 𝓤) → Contract 𝓤
@@ -44,13 +44,13 @@ ByValue 𝓤 H A mem run = tripleOf 𝓤 H A by-value.signature (by-value.spec �
 
 -- a sheet's machine values, and those of what is handed back
 abbrev sheet-values : Sheet → List Val
-sheet-values = struct.vals sheet.the-type sheet-laws.the-laws
+sheet-values = struct.vals sheets.the-type sheet-laws.the-laws
 
 abbrev told-values : Told → List Val
 told-values = struct.vals told.the-type told-laws.the-laws
 
 -- what is handed back is related to its machine values, part by part
-sheet-is : (back : Handed) (values : List Val) → Is handed.the-row back values → Is sheet.the-row (back .sheet) (sheet-values (back .sheet))
+sheet-is : (back : Handed) (values : List Val) → Is handed.the-row back values → Is sheets.the-row (back .sheet) (sheet-values (back .sheet))
 sheet-is back values is = struct.owed handed.the-type handed-laws.the-laws back values is .1 .0
 
 told-is : (back : Handed) (values : List Val) → Is handed.the-row back values → Is told.the-row (back .told) (told-values (back .told))
@@ -62,7 +62,7 @@ module _ {M : Type 1} (𝓤 : URA M) (H : Heap 𝓤) (A : Atoms 𝓤) (W : Given
     (d-fits : d < 2 ^ 64) (desk-fits : desk < 2 ^ 64) (kind-fits : kind < 2 ^ 64) (n-fits : n < 2 ^ 64) where
   -- the machine values of the sheet at entry and of the slices
   abbrev before-value : Val
-  before-value = struct.val sheet.the-type sheet-laws.the-laws before
+  before-value = struct.val sheets.the-type sheet-laws.the-laws before
 
   abbrev table-value : Val
   table-value = sliceVal (table .ptr) (length (table .now))
@@ -125,13 +125,13 @@ module _ {M : Type 1} (𝓤 : URA M) (H : Heap 𝓤) (A : Atoms 𝓤) (W : Given
 
   asked : ent 𝓤 (onEntry 𝓤 H A by-value.signature (κ-table, (κ-list, tt)) (q-table, (q-list, tt)) passed passed-values) Asked
   asked =
-      qed W (tokens ∷ ‵ (owns (ShrSlice (named 0) κ-table u64 ∷ usize ∷ sheet.the-row ∷ usize ∷ u64 ∷ u64 ∷ MutSlice (named 1) κ-list usize ∷ [])
+      qed W (tokens ∷ ‵ (owns (ShrSlice (named 0) κ-table u64 ∷ usize ∷ sheets.the-row ∷ usize ∷ u64 ∷ u64 ∷ MutSlice (named 1) κ-list usize ∷ [])
       passed passed-values) ∷ []) ∵ join ! $ frame ! $ done !
 
   -- what is owned gives what the callee asks, and the table's is kept
-  apart : ent 𝓤 (⋆ 𝓤 H A (‵ OthersOwn ∷ tokens ∷ ‵ (sheet.the-row .own before (before-value ∷ [])) ∷ [])) (sep 𝓤 Asked (sem 𝓤 H A TableOwn))
+  apart : ent 𝓤 (⋆ 𝓤 H A (‵ OthersOwn ∷ tokens ∷ ‵ (sheets.the-row .own before (before-value ∷ [])) ∷ [])) (sep 𝓤 Asked (sem 𝓤 H A TableOwn))
   apart =
-      qed W (‵ OthersOwn ∷ tokens ∷ ‵ (sheet.the-row .own before (before-value ∷ [])) ∷ []) ∵
+      qed W (‵ OthersOwn ∷ tokens ∷ ‵ (sheets.the-row .own before (before-value ∷ [])) ∷ []) ∵
       fsplit ! $ use1 W (‵ TableOwn ⊛ ‵ TableOwn) (shr-slice-copy 𝓤 H A W (named 1) κ-table u64 .twice table (table-value ∷ [])) $ split ! $
       move ! (2 ∷ []) $ fsplit ! $ drop ! $ fsplit ! $ drop ! $
       -- [what the kind, n and the list own; the table's; the table's; the tokens; the sheet's]
@@ -147,7 +147,7 @@ module _ {M : Type 1} (𝓤 : URA M) (H : Heap 𝓤) (A : Atoms 𝓤) (W : Given
   -- what is left when the borrow is closed
   abbrev Left : Handed → List ℕ → List (Item 𝓤)
   Left back last =
-      ‵ (fobs name (sheet.the-row .coded .code (back .sheet))) ∷ ‵ (fbor κ-sheet (Body (mem sheet.the-row) block offset name)) ∷
+      ‵ (fobs name (sheets.the-row .coded .code (back .sheet))) ∷ ‵ (fbor κ-sheet (Body (mem sheets.the-row) block offset name)) ∷
       ‵ (flft κ-sheet q-sheet) ∷ tokens ∷ ‵ (finally usize (list .name) last) ∷ ‵ TableOwn ∷ []
 
   exits : (back : Handed) (last : List ℕ) → Said back last → length last ≡ length (list .now) → Is told.the-row (back .told) (told-values (back .told))
@@ -174,7 +174,7 @@ module _ {M : Type 1} (𝓤 : URA M) (H : Heap 𝓤) (A : Atoms 𝓤) (W : Given
         → ent 𝓤 (onEntry 𝓤 H A in-place.signature (κ-sheet, (κ-table, (κ-list, tt))) (q-sheet, (q-table, (q-list, tt))) params values)
         (WpFn 𝓤 H C Λ code.function args Post)
     walk table-is list-is =
-        qed W ((‵ (flft κ-sheet q-sheet) ⊛ tokens) ∷ ‵ (owns (MutRef (named 0) κ-sheet sheet.the-row ∷ ShrSlice (named 1) κ-table u64 ∷ usize ∷ usize
+        qed W ((‵ (flft κ-sheet q-sheet) ⊛ tokens) ∷ ‵ (owns (MutRef (named 0) κ-sheet sheets.the-row ∷ ShrSlice (named 1) κ-table u64 ∷ usize ∷ usize
         ∷ u64 ∷ u64 ∷ MutSlice (named 2) κ-list usize ∷ []) params values) ∷ []) ∵
         enter ! C Λ code.function args _ $
         alloc1 ! (λ l₀. alloc1 ! (λ l₁. alloc1 ! (λ l₂. alloc1 ! (λ l₃. alloc1 ! (λ l₄. alloc1 ! (λ l₅. alloc1 ! (λ l₆. alloc1 ! (λ l₇.
@@ -186,13 +186,13 @@ module _ {M : Type 1} (𝓤 : URA M) (H : Heap 𝓤) (A : Atoms 𝓤) (W : Given
         pass1 ! (init ! 8 refl (mut-slice-lawful 𝓤 H A W (named 2) κ-list usize .typed list (list-value ∷ []) list-is .0)) $ pass0 ! $
         -- [_11; …; _10; …; …; _1; …; room for _0; …; the tokens; what the parameters own]: the sheet's borrow is opened
         move ! (25 ∷ []) $ fsplit ! $ fsplit3 ! $ drop ! $ move ! (27 ∷ []) $ split ! $ move ! (2 ∷ 3 ∷ 0 ∷ []) $
-        opens ! tt sheet.the-row {h = before} block offset (λ vs.
-        spelt ! sheet.the-row (Is sheet.the-row) (shows 𝓤 H A sheet.the-row) sheet-values (struct.tells sheet.the-type sheet-laws.the-laws)
+        opens ! tt sheets.the-row {h = before} block offset (λ vs.
+        spelt ! sheets.the-row (Is sheets.the-row) (shows 𝓤 H A sheets.the-row) sheet-values (struct.tells sheets.the-type sheet-laws.the-laws)
         fullShare before vs block offset $
-        move ! (1 ∷ []) $ peeks ! sheet.the-row (Is sheet.the-row) (shows 𝓤 H A sheet.the-row) before (before-value ∷ []) (λ before-is.
+        move ! (1 ∷ []) $ peeks ! sheets.the-row (Is sheets.the-row) (shows 𝓤 H A sheets.the-row) before (before-value ∷ []) (λ before-is.
         -- [the sheet's; its cell; the open borrow; obs; auth; the other tokens; what the other parameters own; _11 (7); _10 (9); _9 (11); _8 (13); _7 (15); …; _1 (27); room for _0 (29)]
         assigns ! (of-opd ! (load ! (from ! (hop ! (look ! 27 refl) (stop !))) (look-raw ! 1 refl))) (from ! (stop !))
-        (init ! 13 refl (struct.lawful sheet.the-type sheet-laws.the-laws 𝓤 H A W .typed before _ before-is .0)) $
+        (init ! 13 refl (struct.lawful sheets.the-type sheet-laws.the-laws 𝓤 H A W .typed before _ before-is .0)) $
         assigns ! (addr ! (from ! (fld ! refl (hop ! (look-in ! 15 (sub ! 0 refl (whole !))) (stop !))))) (from ! (stop !)) (init ! 9 refl (tt, tt)) $
         assigns ! (agg ! (and-then ! (load ! (from ! (stop !)) (look ! 9 refl))
         (and-then ! (load ! (from ! (fld ! refl (stop !))) (look-in ! 15 (sub ! 1 refl (whole !)))) (no-more !)))) (from ! (stop !))
@@ -221,12 +221,12 @@ module _ {M : Type 1} (𝓤 : URA M) (H : Heap 𝓤) (A : Atoms 𝓤) (W : Given
         land ! (from ! (stop !)) (init ! 13 refl (struct.lawful handed.the-type handed-laws.the-laws 𝓤 H A W .typed back _ back-is .0)) $
         rewrite ! 13 (λ (u : Val). ‵ (fat fullShare handed-laws.mir l₉ 0 u)) (ap only (struct.tells handed.the-type handed-laws.the-laws back _ back-is)) refl $
         assigns ! (of-opd ! (load ! (from ! (fld ! refl (stop !))) (look-in ! 13 (sub ! 1 refl (whole !))))) (from ! (hop ! (look ! 29 refl) (stop !)))
-        (store-raw ! 5 refl (struct.lawful sheet.the-type sheet-laws.the-laws 𝓤 H A W .typed (back .sheet) _ (sheet-is back _ back-is) .0)) $
+        (store-raw ! 5 refl (struct.lawful sheets.the-type sheet-laws.the-laws 𝓤 H A W .typed (back .sheet) _ (sheet-is back _ back-is) .0)) $
         assigns ! (of-opd ! (load ! (from ! (fld ! refl (stop !))) (look-in ! 13 (sub ! 0 refl (whole !))))) (from ! (stop !))
         (init ! 31 refl (struct.lawful told.the-type told-laws.the-laws 𝓤 H A W .typed (back .told) _ (told-is back _ back-is) .0)) $
         -- the borrow is closed at the sheet handed back
-        owned ! sheet.the-row (Is sheet.the-row) (struct.makes sheet.the-type sheet-laws.the-plain 𝓤 H A) (back .sheet) _ (sheet-is back _ back-is) $
-        move ! (6 ∷ 0 ∷ 7 ∷ 8 ∷ 9 ∷ []) $ closes ! tt sheet.the-row (back .sheet) (sheet-values (back .sheet)) block offset $
+        owned ! sheets.the-row (Is sheets.the-row) (struct.makes sheets.the-type sheet-laws.the-plain 𝓤 H A) (back .sheet) _ (sheet-is back _ back-is) $
+        move ! (6 ∷ 0 ∷ 7 ∷ 8 ∷ 9 ∷ []) $ closes ! tt sheets.the-row (back .sheet) (sheet-values (back .sheet)) block offset $
         -- [obs; the borrow; its token; what is handed back; the tokens; the last list; true; the table's; _11 (8); …; _0 (30)]
         returns ! (look ! 30 refl) $ forget ! 8 refl $ forget ! 10 refl $ forget ! 12 refl $ forget ! 14 refl $ forget ! 16 refl $ forget ! 18 refl $
         forget ! 20 refl $ forget ! 22 refl $ forget ! 24 refl $ forget ! 26 refl $ forget ! 28 refl $ forget ! 30 refl $
@@ -240,7 +240,7 @@ module _ {M : Type 1} (𝓤 : URA M) (H : Heap 𝓤) (A : Atoms 𝓤) (W : Given
       → Walks 𝓤 H A in-place.ended stayed (WpFn 𝓤 H C Λ code.function) (in-place.clauses 𝓤 H A at-mem run)
   walks C Λ fm known = walked 𝓤 H A in-place.ended stayed (in-place.clauses 𝓤 H A at-mem run) (WpFn 𝓤 H C Λ code.function)
       (λ κs. (ptr-vals, (slice-vals, (uint-vals w64, (uint-vals w64, (uint-vals w64, (uint-vals w64, (slice-vals, tt))))))))
-      (λ κs. (mut-tells (named 0) (κs .0) sheet.the-row, (shr-slice-tells (named 1) (κs .1 .0) u64, (uint-tells w64, (uint-tells w64, (uint-tells w64, (uint-tells w64, (mut-slice-tells (named 2) (κs .1 .1 .0) usize, tt))))))))
+      (λ κs. (mut-tells (named 0) (κs .0) sheets.the-row, (shr-slice-tells (named 1) (κs .1 .0) u64, (uint-tells w64, (uint-tells w64, (uint-tells w64, (uint-tells w64, (mut-slice-tells (named 2) (κs .1 .1 .0) usize, tt))))))))
       (λ κs qs bounds a _ are. via 𝓤 _ (fst∗ 𝓤 _ (emp 𝓤)) (walk 𝓤 H A W at-mem run (κs .0) (κs .1 .0) (κs .1 .1 .0) (qs .0) (qs .1 .0) (qs .1 .1 .0)
       (a .0 .ptr .0) (a .0 .ptr .1) (a .0 .name) (a .0 .now) (a .1 .0) (a .1 .1 .0) (a .1 .1 .1 .0) (a .1 .1 .1 .1 .0) (a .1 .1 .1 .1 .1 .0) (a .1 .1 .1 .1 .1 .1 .0)
       (are .1 .1 .0 .1) (are .1 .1 .1 .0 .1) (are .1 .1 .1 .1 .0 .1) (are .1 .1 .1 .1 .1 .0 .1) C Λ fm known (are .1 .0) (are .1 .1 .1 .1 .1 .1 .0)))
@@ -248,7 +248,7 @@ module _ {M : Type 1} (𝓤 : URA M) (H : Heap 𝓤) (A : Atoms 𝓤) (W : Given
   goes : AllGo 𝓤 H A W 3 (in-place.signature .params) (in-place.ended .kept) stayed
   goes =
       let number = goes-none 𝓤 H A W 3 (λ _. usize) yes (λ κs x f. refl) in
-      (goes-ref 𝓤 H A W 3 0 tt (plain (λ _. sheet.the-row)), (goes-none-slice 𝓤 H A W 3 (1 ∷ []) tt (plain (λ _. u64)) yes, (number, (number, (number, (number, (goes-gave-slice 𝓤 H A W 3 2 tt (plain (λ _. usize)), tt)))))))
+      (goes-ref 𝓤 H A W 3 0 tt (plain (λ _. sheets.the-row)), (goes-none-slice 𝓤 H A W 3 (1 ∷ []) tt (plain (λ _. u64)) yes, (number, (number, (number, (number, (goes-gave-slice 𝓤 H A W 3 2 tt (plain (λ _. usize)), tt)))))))
 
 meets : {M : Type 1} (𝓤 : URA M) (H : Heap 𝓤) (A : Atoms 𝓤) → Given 𝓤 H A → (at-mem : Memory → SProp 𝓤) (run : Routine → Fun 𝓤) (𝓣 : Tables 𝓤 H)
     → Triple 𝓤 (𝓣 .C #by-value) (ByValue 𝓤 H A at-mem run)

@@ -1,0 +1,2 @@
+-- `Passing`: what the walks of `alter` and `altered` have in common.
+pub mod Passing
