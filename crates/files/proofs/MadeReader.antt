@@ -1,29 +1,34 @@
--- A reader made of a slice and a cursor: its type, and what it owns of what the slice owns. Assumes `Given`.
-use Rattle.walks.proofs.Walk.{refl, ℕ, _<_, _^_, List, [], _∷_, length, URA, named, w64, Val, ent, Lft, Fml, Heap, Atoms, sem, Given, ‵, _$_, _∵_, !, qed, by, move, fjoin, RattleType, Is, uint-makes, u8, usize, RefT, NamedLft, namedLft, sliceVal, ShrSlice, owned, nothing, own-shut}
+-- A reader made of a file and a cursor: its type, and what it owns of what the file's slice owns. Assumes `Given`.
+use Rattle.walks.proofs.Walk.{refl, ℕ, _<_, _^_, List, [], _∷_, length, URA, named, w64, Val, ent, Lft, Fml, Heap, Atoms, sem, Given, ‵, _$_, _∵_, !, qed, by}
+use Rattle.walks.proofs.Walk.{move, fjoin, RattleType, Is, uint-makes, u8, usize, RefT, NamedLft, namedLft, sliceVal, ShrSlice, owned, nothing, own-shut}
 use Rattle.files.specs.declared.reader.Reader.{Reader}
-use Rattle.files.proofs.reader.Reader as T
-use Rattle.files.proofs.reader.Reader.Laws as T′
+use Rattle.files.proofs.reader.Reader as readers
+use Rattle.files.proofs.reader.Reader.Laws as reader-laws
 
-module _ (κ : Lft) (s : RefT (List ℕ)) (m : ℕ) where
-  -- the machine value of the slice
-  abbrev pub machine : Val
-  machine = sliceVal (s .ptr) (length (s .now))
+-- machine values
+abbrev pub file-value : RefT (List ℕ) → Val
+file-value file = sliceVal (file .ptr) (length (file .now))
 
-  -- the reader's type, at the lifetime of the file
-  abbrev pub lifetime : NamedLft
-  lifetime = namedLft 1 0 tt (κ, tt)
+abbrev pub reader-value : Reader → Val
+reader-value = reader-laws.lowered
 
-  abbrev pub ReaderType : RattleType
-  ReaderType = T.the-row lifetime
+-- the reader's type, at the lifetime of the file
+abbrev pub lifetime : Lft → NamedLft
+lifetime κ-file = namedLft 1 0 tt (κ-file, tt)
 
-  abbrev pub made : Reader
-  made = record { file = s; at = m }
+abbrev pub ReaderType : Lft → RattleType
+ReaderType κ-file = readers.the-row (lifetime κ-file)
 
-  -- what the slice owns
-  abbrev pub OwnSlice : Fml
-  OwnSlice = ShrSlice (named 0) κ u8 .own s (machine ∷ [])
+abbrev pub made : RefT (List ℕ) → ℕ → Reader
+made file cursor = record { file = file; at = cursor }
 
-  pub made-owns : {M : Type 1} (𝓤 : URA M) (H : Heap 𝓤) (A : Atoms 𝓤) (W : Given 𝓤 H A) → m < 2 ^ 64 → ent 𝓤 (sem 𝓤 H A OwnSlice) (sem 𝓤 H A (ReaderType .own made (T′.lowered made ∷ [])))
-  made-owns 𝓤 H A W fits =
-      qed W (‵ OwnSlice ∷ []) ∵ nothing ! $ owned ! usize (Is usize) (uint-makes 𝓤 H A W w64) m _ (refl, fits) $ fjoin ! $ move ! (1 ∷ 0 ∷ []) $ fjoin ! $
-      by ! (own-shut 𝓤 H A W (T.the-type lifetime) (T′.the-laws lifetime) (s, (m, tt)))
+-- what the file's slice owns
+abbrev pub FileOwn : Lft → RefT (List ℕ) → Fml
+FileOwn κ-file file = ShrSlice (named 0) κ-file u8 .own file (file-value file ∷ [])
+
+pub made-owns : (κ-file : Lft) (file : RefT (List ℕ)) (cursor : ℕ) {M : Type 1} (𝓤 : URA M) (H : Heap 𝓤) (A : Atoms 𝓤) (W : Given 𝓤 H A) → cursor < 2 ^ 64
+    → ent 𝓤 (sem 𝓤 H A (FileOwn κ-file file)) (sem 𝓤 H A (ReaderType κ-file .own (made file cursor) (reader-value (made file cursor) ∷ [])))
+made-owns κ-file file cursor 𝓤 H A W fits =
+    qed W (‵ (FileOwn κ-file file) ∷ []) ∵ nothing ! $
+    owned ! usize (Is usize) (uint-makes 𝓤 H A W w64) cursor _ (refl, fits) $ fjoin ! $ move ! (1 ∷ 0 ∷ []) $ fjoin ! $
+    by ! (own-shut 𝓤 H A W (readers.the-type (lifetime κ-file)) (reader-laws.the-laws (lifetime κ-file)) (file, (cursor, tt)))
