@@ -1,5 +1,6 @@
 -- `foliokettle_alter` meets its contract: a walk of its code, by hand, the same as that of `alter` (crates/server).
--- The borrowed sheet is opened and copied out, `foliokettle_call` gets the copy, the table and the list lent on, the sheet that it hands back is stored in the place of the old one, and the borrow is closed at it.
+-- The borrowed sheet is opened and copied out, `foliokettle_call` gets the copy, the table and the list lent on,
+-- the sheet that it hands back is stored in the place of the old one, and the borrow is closed at it.
 -- Of `foliokettle_call` only its contract is used. Assumes nothing.
 use Rattle.walks.proofs.Walk.{_≡_, refl, ap, ℕ, _<_, _^_, [], _∷_, List, length, URA, fullShare, named, w64, Val, vint, vptr}
 use Rattle.walks.proofs.Walk.{SProp, ent, sep, emp, via, fst∗, id⊢, GName, Lft, Share, Fml, ftrue, flft, fat, fobs, fbor}
@@ -35,8 +36,10 @@ use Rattle.host.proofs.foliokettle_alter.Code as code
 
 abbrev stayed : Stays (in-place.ended .signature .params) (in-place.ended .kept)
 stayed =
+    let lent-table = stay-none-slice (1 ∷ []) tt (plain (λ _. u64)) yes in
     let number = stay-none (λ _. usize) yes in
-    (stay-ref (0 ∷ []) tt (plain (λ _. sheets.the-row)), (stay-none-slice (1 ∷ []) tt (plain (λ _. u64)) yes, (number, (number, (number, (number, (gave-slice (2 ∷ []) tt (plain (λ _. usize)), tt)))))))
+    let lent-list = gave-slice (2 ∷ []) tt (plain (λ _. usize)) in
+    (stay-ref (0 ∷ []) tt (plain (λ _. sheets.the-row)), (lent-table, (number, (number, (number, (number, (lent-list, tt)))))))
 
 -- the contract that the proof cites
 abbrev ByValue : {M : Type 1} (𝓤 : URA M) (H : Heap 𝓤) (A : Atoms 𝓤) (mem : Memory → SProp 𝓤) (run : Routine → Fun 𝓤) → Contract 𝓤
@@ -190,7 +193,8 @@ module _ {M : Type 1} (𝓤 : URA M) (H : Heap 𝓤) (A : Atoms 𝓤) (W : Given
         spelt ! sheets.the-row (Is sheets.the-row) (shows 𝓤 H A sheets.the-row) sheet-values (struct.tells sheets.the-type sheet-laws.the-laws)
         fullShare before vs block offset $
         move ! (1 ∷ []) $ peeks ! sheets.the-row (Is sheets.the-row) (shows 𝓤 H A sheets.the-row) before (before-value ∷ []) (λ before-is.
-        -- [the sheet's; its cell; the open borrow; obs; auth; the other tokens; what the other parameters own; _11 (7); _10 (9); _9 (11); _8 (13); _7 (15); …; _1 (27); room for _0 (29)]
+        -- [the sheet's; its cell; the open borrow; obs; auth; the other tokens; what the other parameters own;
+        -- _11 (7); _10 (9); _9 (11); _8 (13); _7 (15); …; _1 (27); room for _0 (29)]
         assigns ! (of-opd ! (load ! (from ! (hop ! (look ! 27 refl) (stop !))) (look-raw ! 1 refl))) (from ! (stop !))
         (init ! 13 refl (struct.lawful sheets.the-type sheet-laws.the-laws 𝓤 H A W .typed before _ before-is .0)) $
         assigns ! (addr ! (from ! (fld ! refl (hop ! (look-in ! 15 (sub ! 0 refl (whole !))) (stop !))))) (from ! (stop !)) (init ! 9 refl (tt, tt)) $
@@ -217,7 +221,8 @@ module _ {M : Type 1} (𝓤 : URA M) (H : Heap 𝓤) (A : Atoms 𝓤) (W : Given
         -- [the last list; …; the tokens and what is handed back; the table's; the cell; …]
         move ! (2 ∷ []) $ split ! $ move ! (1 ∷ []) $
         peeks ! handed.the-row (Is handed.the-row) (shows 𝓤 H A handed.the-row) back (back-value ∷ []) (λ back-is.
-        -- [what is handed back; the tokens; the last list; true; the table's; the cell; the open borrow; obs; auth; _11 (9); _10 (11); _9 (13); _8 (15); …; _1 (29); room for _0 (31)]
+        -- [what is handed back; the tokens; the last list; true; the table's; the cell; the open borrow; obs; auth;
+        -- _11 (9); _10 (11); _9 (13); _8 (15); …; _1 (29); room for _0 (31)]
         land ! (from ! (stop !)) (init ! 13 refl (struct.lawful handed.the-type handed-laws.the-laws 𝓤 H A W .typed back _ back-is .0)) $
         rewrite ! 13 (λ (u : Val). ‵ (fat fullShare handed-laws.mir l₉ 0 u)) (ap only (struct.tells handed.the-type handed-laws.the-laws back _ back-is)) refl $
         assigns ! (of-opd ! (load ! (from ! (fld ! refl (stop !))) (look-in ! 13 (sub ! 1 refl (whole !))))) (from ! (hop ! (look ! 29 refl) (stop !)))
@@ -240,15 +245,21 @@ module _ {M : Type 1} (𝓤 : URA M) (H : Heap 𝓤) (A : Atoms 𝓤) (W : Given
       → Walks 𝓤 H A in-place.ended stayed (WpFn 𝓤 H C Λ code.function) (in-place.clauses 𝓤 H A at-mem run)
   walks C Λ fm known = walked 𝓤 H A in-place.ended stayed (in-place.clauses 𝓤 H A at-mem run) (WpFn 𝓤 H C Λ code.function)
       (λ κs. (ptr-vals, (slice-vals, (uint-vals w64, (uint-vals w64, (uint-vals w64, (uint-vals w64, (slice-vals, tt))))))))
-      (λ κs. (mut-tells (named 0) (κs .0) sheets.the-row, (shr-slice-tells (named 1) (κs .1 .0) u64, (uint-tells w64, (uint-tells w64, (uint-tells w64, (uint-tells w64, (mut-slice-tells (named 2) (κs .1 .1 .0) usize, tt))))))))
+      (λ κs.
+      let lent-table = shr-slice-tells (named 1) (κs .1 .0) u64 in
+      let number = uint-tells w64 in
+      let lent-list = mut-slice-tells (named 2) (κs .1 .1 .0) usize in
+      (mut-tells (named 0) (κs .0) sheets.the-row, (lent-table, (number, (number, (number, (number, (lent-list, tt))))))))
       (λ κs qs bounds a _ are. via 𝓤 _ (fst∗ 𝓤 _ (emp 𝓤)) (walk 𝓤 H A W at-mem run (κs .0) (κs .1 .0) (κs .1 .1 .0) (qs .0) (qs .1 .0) (qs .1 .1 .0)
-      (a .0 .ptr .0) (a .0 .ptr .1) (a .0 .name) (a .0 .now) (a .1 .0) (a .1 .1 .0) (a .1 .1 .1 .0) (a .1 .1 .1 .1 .0) (a .1 .1 .1 .1 .1 .0) (a .1 .1 .1 .1 .1 .1 .0)
-      (are .1 .1 .0 .1) (are .1 .1 .1 .0 .1) (are .1 .1 .1 .1 .0 .1) (are .1 .1 .1 .1 .1 .0 .1) C Λ fm known (are .1 .0) (are .1 .1 .1 .1 .1 .1 .0)))
+      (a .0 .ptr .0) (a .0 .ptr .1) (a .0 .name) (a .0 .now) (a .1 .0) (a .1 .1 .0) (a .1 .1 .1 .0) (a .1 .1 .1 .1 .0) (a .1 .1 .1 .1 .1 .0)
+      (a .1 .1 .1 .1 .1 .1 .0) (are .1 .1 .0 .1) (are .1 .1 .1 .0 .1) (are .1 .1 .1 .1 .0 .1) (are .1 .1 .1 .1 .1 .0 .1) C Λ fm known (are .1 .0) (are .1 .1 .1 .1 .1 .1 .0)))
 
   goes : AllGo 𝓤 H A W 3 (in-place.signature .params) (in-place.ended .kept) stayed
   goes =
+      let lent-table = goes-none-slice 𝓤 H A W 3 (1 ∷ []) tt (plain (λ _. u64)) yes in
       let number = goes-none 𝓤 H A W 3 (λ _. usize) yes (λ κs x f. refl) in
-      (goes-ref 𝓤 H A W 3 0 tt (plain (λ _. sheets.the-row)), (goes-none-slice 𝓤 H A W 3 (1 ∷ []) tt (plain (λ _. u64)) yes, (number, (number, (number, (number, (goes-gave-slice 𝓤 H A W 3 2 tt (plain (λ _. usize)), tt)))))))
+      let lent-list = goes-gave-slice 𝓤 H A W 3 2 tt (plain (λ _. usize)) in
+      (goes-ref 𝓤 H A W 3 0 tt (plain (λ _. sheets.the-row)), (lent-table, (number, (number, (number, (number, (lent-list, tt)))))))
 
 meets : {M : Type 1} (𝓤 : URA M) (H : Heap 𝓤) (A : Atoms 𝓤) → Given 𝓤 H A → (at-mem : Memory → SProp 𝓤) (run : Routine → Fun 𝓤) (𝓣 : Tables 𝓤 H)
     → Triple 𝓤 (𝓣 .C #by-value) (ByValue 𝓤 H A at-mem run)
@@ -263,4 +274,5 @@ foliokettle-alter-spec 𝓤 H 𝓜 𝓖 𝓡 =
     entered 𝓤 H (tripleOf 𝓤 H (𝓖 .A) in-place.signature (in-place.spec 𝓤 H (𝓖 .A) (𝓜 .mem) (𝓡 .run)))
     (tables 𝓤 H 𝓜 𝓡 code.env .C) (tables 𝓤 H 𝓜 𝓡 code.env .Λ) #in-place code.function (code.unfolded 𝓤 H 𝓜 𝓡)
     (meets 𝓤 H (𝓖 .A) (givenOf 𝓤 H 𝓜 𝓖) (𝓜 .mem) (𝓡 .run) (tablesOf 𝓤 H 𝓜 (tables 𝓤 H 𝓜 𝓡 code.env))
-    (cited 𝓤 H (ByValue 𝓤 H (𝓖 .A) (𝓜 .mem) (𝓡 .run)) 𝓜 𝓡 code.env #by-value by-value-def.routine code.calls-host·foliokettle-call (by-value-thm.met 𝓤 H 𝓜 𝓖 𝓡)))
+    (cited 𝓤 H (ByValue 𝓤 H (𝓖 .A) (𝓜 .mem) (𝓡 .run)) 𝓜 𝓡 code.env #by-value by-value-def.routine
+    code.calls-host·foliokettle-call (by-value-thm.met 𝓤 H 𝓜 𝓖 𝓡)))

@@ -1,4 +1,5 @@
--- `alter` meets its contract: a walk of its code, by hand. The borrowed sheet is opened and copied out, `desk_call` gets the copy, the table and the list lent on, the sheet that it hands back is stored in the place of the old one, and the borrow is closed at it.
+-- `alter` meets its contract: a walk of its code, by hand. The borrowed sheet is opened and copied out, `desk_call` gets the copy, the table
+-- and the list lent on, the sheet that it hands back is stored in the place of the old one, and the borrow is closed at it.
 -- Of `desk_call` only its contract is used. Assumes nothing.
 use Rattle.walks.proofs.Walk.{_≡_, refl, ap, ℕ, _<_, _^_, [], _∷_, List, length, URA, fullShare, named, w64, Val, vint, vptr}
 use Rattle.walks.proofs.Walk.{SProp, ent, sep, emp, via, fst∗, id⊢, GName, Lft, Share, Fml, ftrue, flft, fat, fobs, fbor}
@@ -38,8 +39,10 @@ use Rattle.server.proofs.alter.Code as code
 
 abbrev stayed : Stays (alter.ended .signature .params) (alter.ended .kept)
 stayed =
+    let lent-table = stay-none-slice (1 ∷ []) tt (plain (λ _. u64)) yes in
     let number = stay-none (λ _. usize) yes in
-    (stay-ref (0 ∷ []) tt (plain (λ _. sheets.the-row)), (stay-none-slice (1 ∷ []) tt (plain (λ _. u64)) yes, (number, (number, (stay-none (λ _. calls.the-row) yes, (gave-slice (2 ∷ []) tt (plain (λ _. usize)), tt))))))
+    let lent-list = gave-slice (2 ∷ []) tt (plain (λ _. usize)) in
+    (stay-ref (0 ∷ []) tt (plain (λ _. sheets.the-row)), (lent-table, (number, (number, (stay-none (λ _. calls.the-row) yes, (lent-list, tt))))))
 
 -- the contract that the proof cites
 abbrev DeskCall : {M : Type 1} (𝓤 : URA M) (H : Heap 𝓤) (A : Atoms 𝓤) (mem : Memory → SProp 𝓤) (run : Routine → Fun 𝓤) → Contract 𝓤
@@ -176,7 +179,8 @@ module _ {M : Type 1} (𝓤 : URA M) (H : Heap 𝓤) (A : Atoms 𝓤) (W : Given
         spelt ! sheets.the-row (Is sheets.the-row) (shows 𝓤 H A sheets.the-row) sheet-values (struct.tells sheets.the-type sheet-laws.the-laws)
         fullShare before vs block offset $
         move ! (1 ∷ []) $ peeks ! sheets.the-row (Is sheets.the-row) (shows 𝓤 H A sheets.the-row) before (before-value ∷ []) (λ before-is.
-        -- [the sheet's; its cell; the open borrow; obs; auth; the other tokens; what the other parameters own; _10 (7); _9 (9); _8 (11); _7 (13); _6 (15); …; _1 (25); room for _0 (27)]
+        -- [the sheet's; its cell; the open borrow; obs; auth; the other tokens; what the other parameters own;
+        -- _10 (7); _9 (9); _8 (11); _7 (13); _6 (15); …; _1 (25); room for _0 (27)]
         assigns ! (of-opd ! (load ! (from ! (hop ! (look ! 25 refl) (stop !))) (look-raw ! 1 refl))) (from ! (stop !))
         (init ! 13 refl (struct.lawful sheets.the-type sheet-laws.the-laws 𝓤 H A W .typed before _ before-is .0)) $
         assigns ! (addr ! (from ! (fld ! refl (hop ! (look-in ! 15 (sub ! 0 refl (whole !))) (stop !))))) (from ! (stop !)) (init ! 9 refl (tt, tt)) $
@@ -202,9 +206,11 @@ module _ {M : Type 1} (𝓤 : URA M) (H : Heap 𝓤) (A : Atoms 𝓤) (W : Given
         -- [the last list; …; the tokens and the reply's; the table's; the cell; …]
         move ! (2 ∷ []) $ split ! $ move ! (1 ∷ []) $
         peeks ! replies.the-row (Is replies.the-row) (shows 𝓤 H A replies.the-row) reply (value ∷ []) (λ reply-is.
-        -- [the reply's; the tokens; the last list; true; the table's; the cell; the open borrow; obs; auth; _10 (9); _9 (11); _8 (13); _7 (15); …; _1 (27); room for _0 (29)]
+        -- [the reply's; the tokens; the last list; true; the table's; the cell; the open borrow; obs; auth;
+        -- _10 (9); _9 (11); _8 (13); _7 (15); …; _1 (27); room for _0 (29)]
         land ! (from ! (stop !)) (init ! 13 refl (struct.lawful replies.the-type reply-laws.the-laws 𝓤 H A W .typed reply _ reply-is .0)) $
-        rewrite ! 13 (λ (u : Val). ‵ (fat fullShare reply-laws.mir l₈ 0 u)) (ap only (struct.tells replies.the-type reply-laws.the-laws reply _ reply-is)) refl $
+        rewrite ! 13 (λ (u : Val). ‵ (fat fullShare reply-laws.mir l₈ 0 u))
+        (ap only (struct.tells replies.the-type reply-laws.the-laws reply _ reply-is)) refl $
         assigns ! (of-opd ! (load ! (from ! (fld ! refl (stop !))) (look-in ! 13 (sub ! 1 refl (whole !))))) (from ! (hop ! (look ! 27 refl) (stop !)))
         (store-raw ! 5 refl (struct.lawful sheets.the-type sheet-laws.the-laws 𝓤 H A W .typed (reply .sheet) _ (sheet-is reply _ reply-is) .0)) $
         assigns ! (of-opd ! (load ! (from ! (fld ! refl (stop !))) (look-in ! 13 (sub ! 0 refl (whole !))))) (from ! (stop !))
@@ -218,22 +224,30 @@ module _ {M : Type 1} (𝓤 : URA M) (H : Heap 𝓤) (A : Atoms 𝓤) (W : Given
         move ! (28 ∷ 29 ∷ []) $ free1 ! $ move ! (26 ∷ 27 ∷ []) $ free1 ! $ move ! (24 ∷ 25 ∷ []) $ free1 ! $ move ! (22 ∷ 23 ∷ []) $ free1 ! $
         move ! (20 ∷ 21 ∷ []) $ free1 ! $ move ! (18 ∷ 19 ∷ []) $ free1 ! $ move ! (16 ∷ 17 ∷ []) $ free1 ! $ move ! (14 ∷ 15 ∷ []) $ free1 ! $
         move ! (12 ∷ 13 ∷ []) $ free1 ! $ move ! (10 ∷ 11 ∷ []) $ free1 ! $ move ! (8 ∷ 9 ∷ []) $ free1 ! $ free0 ! $
-        keep ! (0 ∷ 1 ∷ 2 ∷ 4 ∷ 5 ∷ 7 ∷ []) $ by ! (exits reply (lasting .1 .1 .1 .1 .1 .0) said same-length call-is (answer-is reply _ reply-is)))))))))))))))))))))
+        keep ! (0 ∷ 1 ∷ 2 ∷ 4 ∷ 5 ∷ 7 ∷ []) $
+        by ! (exits reply (lasting .1 .1 .1 .1 .1 .0) said same-length call-is (answer-is reply _ reply-is)))))))))))))))))))))
 
 module _ {M : Type 1} (𝓤 : URA M) (H : Heap 𝓤) (A : Atoms 𝓤) (W : Given 𝓤 H A) (at-mem : Memory → SProp 𝓤) (run : Routine → Fun 𝓤) where
   walks : (C : Calls 𝓤 H) (Λ : Loops 𝓤 H) → FmC 𝓤 H (W .laws) C → Triple 𝓤 (C #desk-call) (DeskCall 𝓤 H A at-mem run)
       → Walks 𝓤 H A alter.ended stayed (WpFn 𝓤 H C Λ code.function) (alter.clauses 𝓤 H A at-mem run)
   walks C Λ fm known = walked 𝓤 H A alter.ended stayed (alter.clauses 𝓤 H A at-mem run) (WpFn 𝓤 H C Λ code.function)
       (λ κs. (ptr-vals, (slice-vals, (uint-vals w64, (uint-vals w64, (enum.vals calls.the-type call-laws.the-laws, (slice-vals, tt)))))))
-      (λ κs. (mut-tells (named 0) (κs .0) sheets.the-row, (shr-slice-tells (named 1) (κs .1 .0) u64, (uint-tells w64, (uint-tells w64, (enum.tells calls.the-type call-laws.the-laws, (mut-slice-tells (named 2) (κs .1 .1 .0) usize, tt)))))))
+      (λ κs.
+      let lent-table = shr-slice-tells (named 1) (κs .1 .0) u64 in
+      let number = uint-tells w64 in
+      let lent-list = mut-slice-tells (named 2) (κs .1 .1 .0) usize in
+      (mut-tells (named 0) (κs .0) sheets.the-row, (lent-table, (number, (number, (enum.tells calls.the-type call-laws.the-laws, (lent-list, tt)))))))
       (λ κs qs bounds a _ are. via 𝓤 _ (fst∗ 𝓤 _ (emp 𝓤)) (walk 𝓤 H A W at-mem run (κs .0) (κs .1 .0) (κs .1 .1 .0) (qs .0) (qs .1 .0) (qs .1 .1 .0)
       (a .0 .ptr .0) (a .0 .ptr .1) (a .0 .name) (a .0 .now) (a .1 .0) (a .1 .1 .0) (a .1 .1 .1 .0) (a .1 .1 .1 .1 .0) (a .1 .1 .1 .1 .1 .0)
       (are .1 .1 .0 .1) (are .1 .1 .1 .0 .1) C Λ fm known (are .1 .0) (are .1 .1 .1 .1 .0) (are .1 .1 .1 .1 .1 .0)))
 
   goes : AllGo 𝓤 H A W 3 (alter.signature .params) (alter.ended .kept) stayed
   goes =
+      let lent-table = goes-none-slice 𝓤 H A W 3 (1 ∷ []) tt (plain (λ _. u64)) yes in
       let number = goes-none 𝓤 H A W 3 (λ _. usize) yes (λ κs x f. refl) in
-      (goes-ref 𝓤 H A W 3 0 tt (plain (λ _. sheets.the-row)), (goes-none-slice 𝓤 H A W 3 (1 ∷ []) tt (plain (λ _. u64)) yes, (number, (number, (goes-none 𝓤 H A W 3 (λ _. calls.the-row) yes (λ κs x f. refl), (goes-gave-slice 𝓤 H A W 3 2 tt (plain (λ _. usize)), tt))))))
+      let lent-list = goes-gave-slice 𝓤 H A W 3 2 tt (plain (λ _. usize)) in
+      let call = goes-none 𝓤 H A W 3 (λ _. calls.the-row) yes (λ κs x f. refl) in
+      (goes-ref 𝓤 H A W 3 0 tt (plain (λ _. sheets.the-row)), (lent-table, (number, (number, (call, (lent-list, tt))))))
 
 meets : {M : Type 1} (𝓤 : URA M) (H : Heap 𝓤) (A : Atoms 𝓤) → Given 𝓤 H A → (at-mem : Memory → SProp 𝓤) (run : Routine → Fun 𝓤) (𝓣 : Tables 𝓤 H)
     → Triple 𝓤 (𝓣 .C #desk-call) (DeskCall 𝓤 H A at-mem run)

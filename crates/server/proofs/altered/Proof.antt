@@ -1,4 +1,5 @@
--- `altered` meets its contract: a walk of its code, by hand. The sheet passed is laid into a local, lent to `alter` for a lifetime made for that call, taken back, and put into the reply.
+-- `altered` meets its contract: a walk of its code, by hand. The sheet passed is laid into a local, lent to `alter` for a lifetime made
+-- for that call, taken back, and put into the reply.
 -- Of `alter` only its contract is used. Assumes nothing.
 use Rattle.walks.proofs.Walk.{_≡_, refl, ap, ℕ, _<_, _^_, [], _∷_, List, length, URA, fullShare, named, w64, Val, vint, vptr}
 use Rattle.walks.proofs.Walk.{SProp, ent, sep, emp, via, fst∗, id⊢, GName, Lft, Share, Fml, ftrue, fsep, flft, fat, flent}
@@ -40,8 +41,10 @@ use Rattle.server.proofs.altered.Code as code
 
 abbrev stayed : Stays (altered.ended .signature .params) (altered.ended .kept)
 stayed =
+    let lent-table = stay-none-slice (0 ∷ []) tt (plain (λ _. u64)) yes in
     let number = stay-none (λ _. usize) yes in
-    (stay-none (λ _. sheets.the-row) yes, (stay-none-slice (0 ∷ []) tt (plain (λ _. u64)) yes, (number, (number, (stay-none (λ _. calls.the-row) yes, (gave-slice (1 ∷ []) tt (plain (λ _. usize)), tt))))))
+    let lent-list = gave-slice (1 ∷ []) tt (plain (λ _. usize)) in
+    (stay-none (λ _. sheets.the-row) yes, (lent-table, (number, (number, (stay-none (λ _. calls.the-row) yes, (lent-list, tt))))))
 
 -- the contract that the proof cites
 abbrev Alter : {M : Type 1} (𝓤 : URA M) (H : Heap 𝓤) (A : Atoms 𝓤) (mem : Memory → SProp 𝓤) (run : Routine → Fun 𝓤) → Contract 𝓤
@@ -211,7 +214,8 @@ module _ {M : Type 1} (𝓤 : URA M) (H : Heap 𝓤) (A : Atoms 𝓤) (W : Given
         move ! (3 ∷ []) $ split ! $ move ! (1 ∷ []) $
         peeks ! answers.the-row (Is answers.the-row) (shows 𝓤 H A answers.the-row) answer (value ∷ []) (λ answer-is.
         land ! (from ! (stop !)) (init ! 15 refl (enum.lawful answers.the-type answer-laws.the-laws 𝓤 H A W tt .typed answer _ answer-is .0)) $
-        rewrite ! 15 (λ (u : Val). ‵ (fat fullShare answer-laws.mir l₈ 0 u)) (ap only (enum.tells answers.the-type answer-laws.the-laws answer _ answer-is)) refl $
+        rewrite ! 15 (λ (u : Val). ‵ (fat fullShare answer-laws.mir l₈ 0 u))
+        (ap only (enum.tells answers.the-type answer-laws.the-laws answer _ answer-is)) refl $
         -- the lifetime is ended, and the local taken back at its last value
         let after = lasting .0 in
         move ! (1 ∷ []) $ split ! $ lft-end ! tt $ move ! (0 ∷ 7 ∷ 5 ∷ []) $
@@ -220,7 +224,8 @@ module _ {M : Type 1} (𝓤 : URA M) (H : Heap 𝓤) (A : Atoms 𝓤) (W : Given
         (lies-out 𝓤 H A W sheets.the-row after l₇ 0 sheet-values (struct.tells sheets.the-type sheet-laws.the-laws)) $ fsplit ! $
         use1 W (‵ (fat fullShare sheet-laws.mir l₇ 0 (sheet-value after))) (W .laws .raw-at fullShare sheet-laws.mir l₇ 0 (sheet-value after)) $
         move ! (1 ∷ []) $ peeks ! sheets.the-row (Is sheets.the-row) (shows 𝓤 H A sheets.the-row) after (sheet-values after) (λ after-is.
-        -- [the sheet's; _7 (1); the tokens; the answer's; the last list; true; the table's; _12 (7); _11 (9); _10 (11); _9 (13); _8 (15); _7's end (17); _6 (18); …; _1 (28); room for _0 (30)]
+        -- [the sheet's; _7 (1); the tokens; the answer's; the last list; true; the table's;
+        -- _12 (7); _11 (9); _10 (11); _9 (13); _8 (15); _7's end (17); _6 (18); …; _1 (28); room for _0 (30)]
         assigns ! (of-opd ! (load ! (from ! (stop !)) (look ! 1 refl))) (from ! (stop !))
         (init ! 7 refl (struct.lawful sheets.the-type sheet-laws.the-laws 𝓤 H A W .typed after _ after-is .0)) $
         assigns ! (agg ! (and-then ! (load ! (from ! (stop !)) (look ! 15 refl)) (and-then ! (load ! (from ! (stop !)) (look ! 7 refl)) (no-more !))))
@@ -232,22 +237,30 @@ module _ {M : Type 1} (𝓤 : URA M) (H : Heap 𝓤) (A : Atoms 𝓤) (W : Given
         move ! (22 ∷ 23 ∷ []) $ free1 ! $ move ! (20 ∷ 21 ∷ []) $ free1 ! $ move ! (18 ∷ 19 ∷ []) $ free1 ! $ move ! (1 ∷ 17 ∷ []) $ free1 ! $
         move ! (14 ∷ 15 ∷ []) $ free1 ! $ move ! (12 ∷ 13 ∷ []) $ free1 ! $ move ! (10 ∷ 11 ∷ []) $ free1 ! $ move ! (8 ∷ 9 ∷ []) $ free1 ! $
         move ! (6 ∷ 7 ∷ []) $ free1 ! $ free0 ! $ keep ! (1 ∷ 3 ∷ 5 ∷ []) $
-        by ! (exits answer after (lasting .1 .1 .1 .1 .1 .0) said same-length before-is call-is (reply-is answer after _ answer-is after-is))))))))))))))))))))))))
+        by ! (exits answer after (lasting .1 .1 .1 .1 .1 .0) said same-length before-is call-is
+        (reply-is answer after _ answer-is after-is))))))))))))))))))))))))
 
 module _ {M : Type 1} (𝓤 : URA M) (H : Heap 𝓤) (A : Atoms 𝓤) (W : Given 𝓤 H A) (at-mem : Memory → SProp 𝓤) (run : Routine → Fun 𝓤) where
   walks : (C : Calls 𝓤 H) (Λ : Loops 𝓤 H) → FmC 𝓤 H (W .laws) C → Triple 𝓤 (C #alter) (Alter 𝓤 H A at-mem run)
       → Walks 𝓤 H A altered.ended stayed (WpFn 𝓤 H C Λ code.function) (altered.clauses 𝓤 H A at-mem run)
   walks C Λ fm known = walked 𝓤 H A altered.ended stayed (altered.clauses 𝓤 H A at-mem run) (WpFn 𝓤 H C Λ code.function)
       (λ κs. (sheet-values, (slice-vals, (uint-vals w64, (uint-vals w64, (enum.vals calls.the-type call-laws.the-laws, (slice-vals, tt)))))))
-      (λ κs. (struct.tells sheets.the-type sheet-laws.the-laws, (shr-slice-tells (named 0) (κs .0) u64, (uint-tells w64, (uint-tells w64, (enum.tells calls.the-type call-laws.the-laws, (mut-slice-tells (named 1) (κs .1 .0) usize, tt)))))))
+      (λ κs.
+      let lent-table = shr-slice-tells (named 0) (κs .0) u64 in
+      let number = uint-tells w64 in
+      let lent-list = mut-slice-tells (named 1) (κs .1 .0) usize in
+      (struct.tells sheets.the-type sheet-laws.the-laws, (lent-table, (number, (number, (enum.tells calls.the-type call-laws.the-laws, (lent-list, tt)))))))
       (λ κs qs bounds a _ are. via 𝓤 _ (fst∗ 𝓤 _ (emp 𝓤)) (walk 𝓤 H A W at-mem run (κs .0) (κs .1 .0) (qs .0) (qs .1 .0)
       (a .0) (a .1 .0) (a .1 .1 .0) (a .1 .1 .1 .0) (a .1 .1 .1 .1 .0) (a .1 .1 .1 .1 .1 .0)
       (are .1 .1 .0 .1) (are .1 .1 .1 .0 .1) C Λ fm known (are .0) (are .1 .0) (are .1 .1 .1 .1 .0) (are .1 .1 .1 .1 .1 .0)))
 
   goes : AllGo 𝓤 H A W 2 (altered.signature .params) (altered.ended .kept) stayed
   goes =
+      let lent-table = goes-none-slice 𝓤 H A W 2 (0 ∷ []) tt (plain (λ _. u64)) yes in
       let number = goes-none 𝓤 H A W 2 (λ _. usize) yes (λ κs x f. refl) in
-      (goes-none 𝓤 H A W 2 (λ _. sheets.the-row) yes (λ κs x f. refl), (goes-none-slice 𝓤 H A W 2 (0 ∷ []) tt (plain (λ _. u64)) yes, (number, (number, (goes-none 𝓤 H A W 2 (λ _. calls.the-row) yes (λ κs x f. refl), (goes-gave-slice 𝓤 H A W 2 1 tt (plain (λ _. usize)), tt))))))
+      let lent-list = goes-gave-slice 𝓤 H A W 2 1 tt (plain (λ _. usize)) in
+      let call = goes-none 𝓤 H A W 2 (λ _. calls.the-row) yes (λ κs x f. refl) in
+      (goes-none 𝓤 H A W 2 (λ _. sheets.the-row) yes (λ κs x f. refl), (lent-table, (number, (number, (call, (lent-list, tt))))))
 
 meets : {M : Type 1} (𝓤 : URA M) (H : Heap 𝓤) (A : Atoms 𝓤) → Given 𝓤 H A → (at-mem : Memory → SProp 𝓤) (run : Routine → Fun 𝓤) (𝓣 : Tables 𝓤 H)
     → Triple 𝓤 (𝓣 .C #alter) (Alter 𝓤 H A at-mem run)

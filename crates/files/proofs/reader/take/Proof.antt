@@ -1,4 +1,5 @@
--- `take` meets its contract: a walk of its code, by hand. A local reader is made of the file and the cursor and lent to `Reader::next` for a lifetime made for that call, within the file's own; then it is taken back, and the step is put together of the row and the reader's cursor.
+-- `take` meets its contract: a walk of its code, by hand. A local reader is made of the file and the cursor and lent to `Reader::next`
+-- for a lifetime made for that call, within the file's own; then it is taken back, and the step is put together of the row and the reader's cursor.
 -- Of `next` only its contract is used. Assumes nothing.
 use Rattle.walks.proofs.Walk.{_≡_, refl, ap, ℕ, _<_, _^_, List, [], _∷_, URA, fullShare, PosShare·left, PosShare·right, named, erased, w64, Val, vint, vptr}
 use Rattle.walks.proofs.Walk.{SProp, ent, emp, via, fst∗, id⊢, GName, Lft, Share, Fml, ftrue, fsep, flft, fdead, fat, flent, meet-⊑-right}
@@ -109,8 +110,9 @@ module _ {M : Type 1} (𝓤 : URA M) (H : Heap 𝓤) (A : Atoms 𝓤) (W : Given
   -- the step is related to its machine values, as the row and the reader are
   step-is : (row : Row) (after : Reader) (row-values reader-values : List Val) → Is rows.the-row row row-values → Is Readers after reader-values
       → Is steps.the-row (step row after) (step-value row after ∷ [])
-  step-is row after row-values reader-values row-is after-is = struct.owes steps.the-type step-laws.the-laws (step row after)
-      (enum.owes rows.the-type row-laws.the-laws row (enum.owed rows.the-type row-laws.the-laws row row-values row-is), ((refl, after-fits after reader-values after-is), tt))
+  step-is row after row-values reader-values row-is after-is =
+      let row-part = enum.owes rows.the-type row-laws.the-laws row (enum.owed rows.the-type row-laws.the-laws row row-values row-is) in
+      struct.owes steps.the-type step-laws.the-laws (step row after) (row-part, ((refl, after-fits after reader-values after-is), tt))
 
   exits : (row : Row) (after : Reader) → Said row after → Is steps.the-row (step row after) (step-value row after ∷ [])
       → ent 𝓤 (⋆ 𝓤 H A (token ∷ ‵ (FileOwn κ-file file) ∷ [])) (Post (step-value row after))
@@ -159,7 +161,8 @@ module _ {M : Type 1} (𝓤 : URA M) (H : Heap 𝓤) (A : Atoms 𝓤) (W : Given
         use1 W (some (λ (lasting : Reader × Unit {0}). ‵ (lasts next.ended (life ∷ κ-file, (κ-file, tt)) (passed l₃ name) lasting)
         ⊛ raw (fact 𝓤 (Said row (lasting .0))))) (id⊢ 𝓤 _) $
         pick ! (λ lasting. split ! $ move ! (1 ∷ []) $ heard ! (Said row (lasting .0)) (λ said. fsplit ! $ move ! (2 ∷ []) $ split ! $ move ! (1 ∷ []) $
-        -- [the row's; the tokens; the last reader; true; the lender's part; the way back; what the file owns; _6 (7); _5 (9); _4 (11); _3's end (13); _2 (14); _1 (16); room for _0 (18)]
+        -- [the row's; the tokens; the last reader; true; the lender's part; the way back; what the file owns;
+        -- _6 (7); _5 (9); _4 (11); _3's end (13); _2 (14); _1 (16); room for _0 (18)]
         peeks ! rows.the-row (Is rows.the-row) (shows 𝓤 H A rows.the-row) row (value ∷ []) (λ row-is.
         land ! (from ! (stop !)) (init ! 11 refl (enum.lawful rows.the-type row-laws.the-laws 𝓤 H A W tt .typed row _ row-is .0)) $
         rewrite ! 11 (λ (u : Val). ‵ (fat fullShare row-laws.mir l₄ 0 u)) (ap only (enum.tells rows.the-type row-laws.the-laws row _ row-is)) refl $
@@ -175,11 +178,13 @@ module _ {M : Type 1} (𝓤 : URA M) (H : Heap 𝓤) (A : Atoms 𝓤) (W : Given
         use1 W (‵ (fat fullShare (reader-laws.mir erased) l₃ 0 (reader-value after)))
         (W .laws .raw-at fullShare (reader-laws.mir erased) l₃ 0 (reader-value after)) $
         move ! (1 ∷ []) $ peeks ! Readers (Is Readers) (shows 𝓤 H A Readers) after (reader-value after ∷ []) (λ after-is.
-        -- [the reader's; _3 (1); a half of the file's token; the other; the row's; true; what the file owns; _6 (7); _5 (9); _4 (11); _3's end (13); _2 (14); _1 (16); room for _0 (18)]
+        -- [the reader's; _3 (1); a half of the file's token; the other; the row's; true; what the file owns;
+        -- _6 (7); _5 (9); _4 (11); _3's end (13); _2 (14); _1 (16); room for _0 (18)]
         assigns ! (of-opd ! (load ! (from ! (fld ! refl (stop !))) (look-in ! 1 (sub ! 1 refl (whole !))))) (from ! (stop !))
         (init ! 7 refl (tt, record { fits = after-fits after _ after-is })) $
         assigns ! (agg ! (and-then ! (load ! (from ! (stop !)) (look ! 11 refl)) (and-then ! (load ! (from ! (stop !)) (look ! 7 refl)) (no-more !))))
-        (from ! (stop !)) (init ! 18 refl (struct.lawful steps.the-type step-laws.the-laws 𝓤 H A W .typed (step row after) _ (step-is row after _ _ row-is after-is) .0)) $
+        (from ! (stop !)) (init ! 18 refl (struct.lawful steps.the-type step-laws.the-laws 𝓤 H A W .typed (step row after) _
+        (step-is row after _ _ row-is after-is) .0)) $
         move ! (3 ∷ []) $ split ! $ move ! (4 ∷ 0 ∷ []) $ use2 W (‵ (flft κ-file q-file)) (W .lfts .lft-join κ-file q-file) $ join ! $
         -- [the token; the reader's; _3 (2); the row's; true; what the file owns; _6 (6); _5 (8); _4 (10); _3's end (12); _2 (13); _1 (15); _0 (17)]
         returns ! (look ! 17 refl) $ forget ! 2 refl $ forget ! 6 refl $ forget ! 8 refl $ forget ! 10 refl $ forget ! 13 refl $ forget ! 15 refl $

@@ -1,4 +1,5 @@
--- `Reader::new` meets its contract: a walk of its code, by hand. The reader is made in the result, of the file passed and 0; the file's slice is Copy, so the caller's stays as it was.
+-- `Reader::new` meets its contract: a walk of its code, by hand. The reader is made in the result, of the file passed and 0;
+-- the file's slice is Copy, so the caller's stays as it was.
 -- Assumes nothing.
 use Rattle.walks.proofs.Walk.{refl, ℕ, List, [], _∷_, URA, named, Val, SProp, ent, emp, via, fst∗, Lft, Share, ftrue, flft}
 use Rattle.walks.proofs.Walk.{Memory, Routine, Heap, Calls, Loops, WpFn, Tables, Atoms, Fun, givenOf, tables, tablesOf}

@@ -1,4 +1,5 @@
--- `Reader::next` meets its contract: a walk of its code, by hand. The borrowed reader is opened, its file and its cursor are copied out for `step_at`, the new cursor is stored in its place, and the borrow is closed at the moved reader.
+-- `Reader::next` meets its contract: a walk of its code, by hand. The borrowed reader is opened, its file and its cursor are copied out
+-- for `step_at`, the new cursor is stored in its place, and the borrow is closed at the moved reader.
 -- Of `step_at` only its contract is used. Assumes nothing.
 use Rattle.walks.proofs.Walk.{_≡_, refl, ap, ℕ, _<_, _^_, List, [], _∷_, URA, fullShare, named, erased, w64, Val, vint, vptr}
 use Rattle.walks.proofs.Walk.{SProp, ent, sep, emp, via, fst∗, snd∗, exE, id⊢, GName, Lft, Share, Fml, ftrue, flft, fat, fobs, fbor}
@@ -146,7 +147,8 @@ module _ {M : Type 1} (𝓤 : URA M) (H : Heap 𝓤) (A : Atoms 𝓤) (W : Given
   exits step is-found is =
       qed W (Left step) ∵
       suffices ! _ (ends-at 𝓤 H A next.ended stayed (next.clauses 𝓤 H A at-mem run) W
-      (((κ-reader, (κ-file, tt)), (q-reader, (q-file, tt)), bounds, params, values), tt) (row-value (step .row)) (step .row) (moved (step .next), tt) (tt, tt)) $
+      (((κ-reader, (κ-file, tt)), (q-reader, (q-file, tt)), bounds, params, values), tt)
+      (row-value (step .row)) (step .row) (moved (step .next), tt) (tt, tt)) $
       says ! (ap (λ (y : Step). y .row) is-found, ap (λ (y : Step). moved (y .next)) is-found) $
       move ! (2 ∷ 3 ∷ []) $ join ! $ frame ! $ feqI ! (List Val) (vptr block offset ∷ []) (vptr block offset ∷ []) refl $ fjoin3 ! $
       nothing ! $ move ! (1 ∷ 0 ∷ []) $ fjoin ! $
@@ -180,7 +182,8 @@ module _ {M : Type 1} (𝓤 : URA M) (H : Heap 𝓤) (A : Atoms 𝓤) (W : Given
         ⊛ raw (ensured 𝓤 H A step-at.ended (step-at.clauses 𝓤 H A at-mem run) (κ-file, tt) parts tt step)))) (id⊢ 𝓤 _) $
         await ! tt $ pick ! (λ step. split ! $ move ! (1 ∷ []) $ use1 W (raw (fact 𝓤 (step ≡ found))) (said step) $
         heard ! (step ≡ found) (λ is-found. split ! $ move ! (1 ∷ []) $
-        -- [what the step owns; the token; what the reader owns; the cell; the open borrow; obs; auth; true; _4 (8); _3 (10); _2 (12); _1 (14); room for _0 (16)]
+        -- [what the step owns; the token; what the reader owns; the cell; the open borrow; obs; auth; true;
+        -- _4 (8); _3 (10); _2 (12); _1 (14); room for _0 (16)]
         peeks ! steps.the-row (Is steps.the-row) (shows 𝓤 H A steps.the-row) step (value ∷ []) (λ step-is.
         land ! (from ! (stop !)) (init ! 12 refl (struct.lawful steps.the-type step-laws.the-laws 𝓤 H A W .typed step _ step-is .0)) $
         rewrite ! 12 (λ (u : Val). ‵ (fat fullShare step-laws.mir l₂ 0 u)) (ap only (struct.tells steps.the-type step-laws.the-laws step _ step-is)) refl $
