@@ -1,6 +1,6 @@
 /* The store for hosts in C: what `rt staticlib host` exports (crates/host). A slice is a pointer and a length. Nothing
    has to be promised about tables, sheets, desks, numbers or list lengths: bad ones are refused by number. Pointers
-   have to be valid for their lengths, as always in C. */
+   have to be valid for their lengths, as always in C, and the lent table, list and sheet lie apart from each other. */
 #ifndef FOLIOKETTLE_H
 #define FOLIOKETTLE_H
 
