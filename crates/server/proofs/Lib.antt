@@ -1,2 +1,3 @@
--- `Passing`: what the walks of `alter` and `altered` have in common.
+-- `Determined`: the contract leaves no choice. `Passing`: what the walks of `alter` and `altered` have in common.
+pub mod Determined
 pub mod Passing

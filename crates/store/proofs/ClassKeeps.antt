@@ -15,7 +15,7 @@ use Rattle.sheet.proofs.SoundParts.{Sound, sound-parts}
 use Rattle.store.specs.declared.Call.{Call}
 use Rattle.store.specs.declared.Refusal.the-variants.{NoDesk}
 use Rattle.store.specs.declared.Answer.{Answer}
-use Rattle.store.specs.Answers.{_gives_, judged, accepted, numberOf}
+use Rattle.store.specs.Answers.{_gives_, decided, accepted, numberOf}
 use Rattle.store.specs.Desks.{view, serve, listAfter, telling}
 use Rattle.store.specs.Calls.{begunAnswer, crowded}
 use Rattle.store.specs.Promise.{Turn, Store, hiddenIn, ownIn, member, alone, history, heldBy, usedBy, owedBy, properCall, proper, Demand3, sheetOn, classStore}
@@ -56,7 +56,7 @@ module _ {d : ℕ} {table : List ℕ} {desks : ℕ} (good : Good d table desks) 
     abbrev served : Answer
     served = serve d table (crowded s) (length (t .list)) (hides (s .marks) (t .desk)) (own s (t .desk)) (t .call)
 
-    told-here : tell past t .answer ≡ judged ((leb desks (t .desk) gives NoDesk) ∷ []) served
+    told-here : tell past t .answer ≡ decided ((leb desks (t .desk) gives NoDesk) ∷ []) served
     unfolding classStore
     told-here = answered-here good (reached good past) (t .desk) (t .call) (length (t .list))
 
@@ -77,7 +77,7 @@ module _ {d : ℕ} {table : List ℕ} {desks : ℕ} (good : Good d table desks) 
 
     ten-given : numberOf (tell past t .answer) ≡ 10
         → (proper d desks t ≡ true) × (8 ≤ heldBy tell (t .desk) past) × (heldBy tell (t .desk) past < 64) × (usedBy tell desks past + owedBy tell desks past ≡ 512)
-    unfolding proper judged crowded
+    unfolding proper decided crowded
     ten-given e =
         let p = skipped 10 (leb desks (t .desk)) NoDesk [] served (omega arith) (sym (ap numberOf told-here) ∙ e) in
         let h = leb-false desks (t .desk) (p .0) in

@@ -24,34 +24,34 @@ use Rattle.store.specs.declared.Refusal.{Refusal}
 use Rattle.store.specs.declared.Refusal.the-variants.{TooLarge, NoRow, HiddenAlready, BadSet, Full, NoRoom, BadDesks}
 use Rattle.store.specs.declared.Answer.{Answer}
 use Rattle.store.specs.declared.Answer.the-variants.{Done, Refused}
-use Rattle.store.specs.Answers.{Case, _gives_, judged, accepted, number, numberOf}
+use Rattle.store.specs.Answers.{Case, _gives_, decided, accepted, number, numberOf}
 use Rattle.store.specs.Desks.{serve}
 use Rattle.store.specs.Calls.{badCase, tableCases, begunAnswer, crowded}
 
 -- where the answer accepts, the first case does not apply
-pub passed : (b : Bool) (r : Refusal) (cs : List Case) (a : Answer) → accepted (judged ((b gives r) ∷ cs) a) ≡ true → (b ≡ false) × (accepted (judged cs a) ≡ true)
-unfolding judged accepted
+pub passed : (b : Bool) (r : Refusal) (cs : List Case) (a : Answer) → accepted (decided ((b gives r) ∷ cs) a) ≡ true → (b ≡ false) × (accepted (decided cs a) ≡ true)
+unfolding decided accepted
 passed true r cs a t = absurd (false≢true t)
 passed false r cs a t = (refl, t)
 
 -- one case, and whether it applies
-pub given : (b : Bool) (r : Refusal) (a : Answer) → b ≡ true → judged ((b gives r) ∷ []) a ≡ Refused r
-unfolding judged
+pub given : (b : Bool) (r : Refusal) (a : Answer) → b ≡ true → decided ((b gives r) ∷ []) a ≡ Refused r
+unfolding decided
 given b r a e = rw e
 
-pub not-given : (b : Bool) (r : Refusal) (a : Answer) → b ≡ false → judged ((b gives r) ∷ []) a ≡ a
-unfolding judged
+pub not-given : (b : Bool) (r : Refusal) (a : Answer) → b ≡ false → decided ((b gives r) ∷ []) a ≡ a
+unfolding decided
 not-given b r a e = rw e
 
 -- where the answer's number is x: a first case of another number does not apply, and the one case does where the answer behind it has another number
-pub skipped : (x : ℕ) (b : Bool) (r : Refusal) (cs : List Case) (a : Answer) → number r ≢ x → numberOf (judged ((b gives r) ∷ cs) a) ≡ x
-    → (b ≡ false) × (numberOf (judged cs a) ≡ x)
-unfolding judged
+pub skipped : (x : ℕ) (b : Bool) (r : Refusal) (cs : List Case) (a : Answer) → number r ≢ x → numberOf (decided ((b gives r) ∷ cs) a) ≡ x
+    → (b ≡ false) × (numberOf (decided cs a) ≡ x)
+unfolding decided
 skipped x true r cs a ne e = absurd (ne e)
 skipped x false r cs a ne e = (refl, e)
 
-pub applied : (x : ℕ) (b : Bool) (r : Refusal) (a : Answer) → numberOf a ≢ x → numberOf (judged ((b gives r) ∷ []) a) ≡ x → b ≡ true
-unfolding judged
+pub applied : (x : ℕ) (b : Bool) (r : Refusal) (a : Answer) → numberOf a ≢ x → numberOf (decided ((b gives r) ∷ []) a) ≡ x → b ≡ true
+unfolding decided
 applied x true r a ne e = refl
 applied x false r a ne e = absurd (ne e)
 
@@ -94,7 +94,7 @@ good-parts d table desks t =
     }
 
 pub parts-good : {d : ℕ} {table : List ℕ} {desks : ℕ} → Good d table desks → accepted (begunAnswer d table desks) ≡ true
-unfolding begunAnswer tableCases badCase judged accepted
+unfolding begunAnswer tableCases badCase decided accepted
 parts-good {d} {table} {desks} g =
     rw (
       ne-eqb d zero (λ e. absurd (omega (arith, g .some-value))),

@@ -17,7 +17,7 @@ use Rattle.store.specs.declared.Call.the-variants.{Delete, Insert, Reset
 use Rattle.store.specs.declared.Refusal.the-variants.{BadDesks}
 use Rattle.store.specs.declared.Answer.{Answer}
 use Rattle.store.specs.declared.Answer.the-variants.{Done, Refused}
-use Rattle.store.specs.Answers.{Case, _gives_, judged, number, numberOf}
+use Rattle.store.specs.Answers.{Case, _gives_, decided, number, numberOf}
 use Rattle.store.specs.Desks.{callCases, granted, serve}
 use Rattle.store.specs.Calls.{badCase, tableCases, sheetCases, crowded, begunAnswer, answered}
 
@@ -40,27 +40,27 @@ above n (x ∷ cs) r c (inr o) = omega (arith, r .0, above (number (x .refusal))
 
 -- the refusal that is given is no higher than any case that applies
 first-lowest : (n : ℕ) (cs : List Case) → Rising n cs → (a : Answer) (c : Case) → OneOf c cs → c .applies ≡ true
-    → (0 < numberOf (judged cs a)) × (numberOf (judged cs a) ≤ number (c .refusal))
-unfolding judged
+    → (0 < numberOf (decided cs a)) × (numberOf (decided cs a) ≤ number (c .refusal))
+unfolding decided
 first-lowest n [] r a c o t = absurd o
 first-lowest n (x ∷ cs) r a c o t = go (x .applies) refl o (first-lowest (number (x .refusal)) cs (r .1) a c)
   where
     go : (b : Bool) → x .applies ≡ b → (c ≡ x) ⊎ OneOf c cs
-        → (OneOf c cs → c .applies ≡ true → (0 < numberOf (judged cs a)) × (numberOf (judged cs a) ≤ number (c .refusal)))
-        → (0 < numberOf (cond b (Refused (x .refusal)) (judged cs a))) × (numberOf (cond b (Refused (x .refusal)) (judged cs a)) ≤ number (c .refusal))
+        → (OneOf c cs → c .applies ≡ true → (0 < numberOf (decided cs a)) × (numberOf (decided cs a) ≤ number (c .refusal)))
+        → (0 < numberOf (cond b (Refused (x .refusal)) (decided cs a))) × (numberOf (cond b (Refused (x .refusal)) (decided cs a)) ≤ number (c .refusal))
     go true e (inl same) ih = (omega (arith, r .0), rw same (omega arith))
     go true e (inr later) ih = (omega (arith, r .0), omega (arith, above (number (x .refusal)) cs (r .1) c later))
     go false e (inl same) ih = absurd (false≢true (sym e ∙ ap (λ (y : Case). y .applies) (sym same) ∙ t))
     go false e (inr later) ih = ih later t
 
 -- two lists of cases, one after the other
-chained : (cs ds : List Case) (a : Answer) → judged cs (judged ds a) ≡ judged (cs ++ ds) a
-unfolding judged
+chained : (cs ds : List Case) (a : Answer) → decided cs (decided ds a) ≡ decided (cs ++ ds) a
+unfolding decided
 chained [] ds a = refl
 chained (c ∷ cs) ds a = ap (λ (r : Answer). cond (c .applies) (Refused (c .refusal)) r) (chained cs ds a)
 
-joined : (cs ds es : List Case) (a : Answer) → judged (cs ++ ds) (judged es a) ≡ judged (cs ++ (ds ++ es)) a
-joined cs ds es a = chained (cs ++ ds) es a ∙ ap (λ (l : List Case). judged l a) (append-assoc cs ds es)
+joined : (cs ds es : List Case) (a : Answer) → decided (cs ++ ds) (decided es a) ≡ decided (cs ++ (ds ++ es)) a
+joined cs ds es a = chained (cs ++ ds) es a ∙ ap (λ (l : List Case). decided l a) (append-assoc cs ds es)
 
 -- ---- the cases of a desk's call, and of begin
 

@@ -13,7 +13,7 @@ use Rattle.sheet.specs.Upto.{sumTo}
 use Rattle.sheet.proofs.UptoLaws.{top-or-below, sum-part}
 use Rattle.store.specs.declared.Call.{Call}
 use Rattle.store.specs.declared.Call.the-variants.{Insert}
-use Rattle.store.specs.Answers.{judged, accepted, numberOf}
+use Rattle.store.specs.Answers.{decided, accepted, numberOf}
 use Rattle.store.specs.Desks.{serve, Told}
 use Rattle.store.specs.Calls.{begunAnswer}
 use Rattle.store.specs.Promise.{Turn, Store, ownIn, alone, history, heldBy, usedBy, Demand3}
@@ -54,7 +54,7 @@ module _ {d : ℕ} {table : List ℕ} {desks : ℕ} {tell : Store} (begun : acce
   module _ (nine : 9 ≤ desks) (wrong : (past : List Turn) (t : Turn) → numberOf (tell past t .answer) ≡ 10 → usedBy tell desks past ≡ 512) where
     -- while desk 8 has no rows, eight places are owed to it, so no insert is refused by 10
     accepts : (past : List Turn) (k : ℕ) → k < 8 → heldBy tell 8 past ≡ zero → heldBy tell k past < 64 → accepted (tell past (asking k) .answer) ≡ true
-    unfolding alone judged serve accepted
+    unfolding alone decided serve accepted
     accepts past k h none room =
         let owed = sum-part (λ j. 8 - heldBy tell j past) desks 8 (omega arith) in
         let told = keeps .as-alone past (asking k) (λ e. omega (arith, wrong past (asking k) e, owed-is-kept begun keeps past)) in

@@ -23,7 +23,7 @@ use Rattle.store.specs.declared.Refusal.the-variants.{Unsound, OtherTabl
 use Rattle.store.specs.declared.Answer.{Answer}
 use Rattle.store.specs.declared.Answer.the-variants.{Done, Seen, Counted, Listed, Refused}
 use Rattle.store.specs.declared.Reply.{Reply}
-use Rattle.store.specs.Answers.{Case, _gives_, judged, accepted}
+use Rattle.store.specs.Answers.{Case, _gives_, decided, accepted}
 use Rattle.store.specs.Desks.{view, serve, listAfter}
 use Rattle.store.specs.Calls.{tableCases, deskCases, sheetCases, crowded, begunAnswer, begunSheet, begun, answered, changed, sheetAfter, replied, told}
 use Rattle.store.specs.Serving.{Trusted, Served, Possible}
@@ -33,54 +33,54 @@ use Rattle.store.proofs.Trusting.{Limits, limits}
 -- ---- first cases and later ones
 
 -- where one of the first cases applies, the later ones are not looked at
-pub stopped : (cs ds : List Case) (a : Answer) → accepted (judged cs Done) ≡ false → judged (cs ++ ds) a ≡ judged cs Done
-unfolding judged accepted
+pub stopped : (cs ds : List Case) (a : Answer) → accepted (decided cs Done) ≡ false → decided (cs ++ ds) a ≡ decided cs Done
+unfolding decided accepted
 stopped [] ds a e = absurd (true≢false e)
 stopped (c ∷ cs) ds a e = go (c .applies) e (stopped cs ds a)
   where
-    go : (b : Bool) → accepted (cond b (Refused (c .refusal)) (judged cs Done)) ≡ false → (accepted (judged cs Done) ≡ false → judged (cs ++ ds) a ≡ judged cs Done)
-        → cond b (Refused (c .refusal)) (judged (cs ++ ds) a) ≡ cond b (Refused (c .refusal)) (judged cs Done)
+    go : (b : Bool) → accepted (cond b (Refused (c .refusal)) (decided cs Done)) ≡ false → (accepted (decided cs Done) ≡ false → decided (cs ++ ds) a ≡ decided cs Done)
+        → cond b (Refused (c .refusal)) (decided (cs ++ ds) a) ≡ cond b (Refused (c .refusal)) (decided cs Done)
     go true e p = refl
     go false e p = p e
 
 -- where none does, they decide
-pub went-on : (cs ds : List Case) (a : Answer) → accepted (judged cs Done) ≡ true → judged (cs ++ ds) a ≡ judged ds a
-unfolding judged accepted
+pub went-on : (cs ds : List Case) (a : Answer) → accepted (decided cs Done) ≡ true → decided (cs ++ ds) a ≡ decided ds a
+unfolding decided accepted
 went-on [] ds a e = refl
 went-on (c ∷ cs) ds a e = go (c .applies) e (went-on cs ds a)
   where
-    go : (b : Bool) → accepted (cond b (Refused (c .refusal)) (judged cs Done)) ≡ true → (accepted (judged cs Done) ≡ true → judged (cs ++ ds) a ≡ judged ds a)
-        → cond b (Refused (c .refusal)) (judged (cs ++ ds) a) ≡ judged ds a
+    go : (b : Bool) → accepted (cond b (Refused (c .refusal)) (decided cs Done)) ≡ true → (accepted (decided cs Done) ≡ true → decided (cs ++ ds) a ≡ decided ds a)
+        → cond b (Refused (c .refusal)) (decided (cs ++ ds) a) ≡ decided ds a
     go true e p = absurd (false≢true e)
     go false e p = p e
 
 -- and what is then said is `Done`
-done : (cs : List Case) → accepted (judged cs Done) ≡ true → judged cs Done ≡ Done
-unfolding judged accepted
+done : (cs : List Case) → accepted (decided cs Done) ≡ true → decided cs Done ≡ Done
+unfolding decided accepted
 done [] e = refl
 done (c ∷ cs) e = go (c .applies) e (done cs)
   where
-    go : (b : Bool) → accepted (cond b (Refused (c .refusal)) (judged cs Done)) ≡ true → (accepted (judged cs Done) ≡ true → judged cs Done ≡ Done)
-        → cond b (Refused (c .refusal)) (judged cs Done) ≡ Done
+    go : (b : Bool) → accepted (cond b (Refused (c .refusal)) (decided cs Done)) ≡ true → (accepted (decided cs Done) ≡ true → decided cs Done ≡ Done)
+        → cond b (Refused (c .refusal)) (decided cs Done) ≡ Done
     go true e p = absurd (false≢true e)
     go false e p = p e
 
 -- ---- begin
 
 module _ (d : ℕ) (table : List ℕ) (desks : ℕ) where
-  pub begun-refused : accepted (judged (tableCases d table) Done) ≡ false
-      → record { answer = judged (tableCases d table) Done; sheet = freshSheet zero zero zero } ≡ begun d table desks
+  pub begun-refused : accepted (decided (tableCases d table) Done) ≡ false
+      → record { answer = decided (tableCases d table) Done; sheet = freshSheet zero zero zero } ≡ begun d table desks
   unfolding begunAnswer begunSheet
   begun-refused e = let stop = stopped (tableCases d table) (((eqb desks zero || ltb 32 desks) gives BadDesks) ∷ []) Done e in rw (stop, e) refl
 
-  module _ (right : accepted (judged (tableCases d table) Done) ≡ true) where
+  module _ (right : accepted (decided (tableCases d table) Done) ≡ true) where
     pub begun-desks : (eqb desks zero || ltb 32 desks) ≡ true → record { answer = Refused BadDesks; sheet = freshSheet zero zero zero } ≡ begun d table desks
-    unfolding begunAnswer begunSheet judged accepted
+    unfolding begunAnswer begunSheet decided accepted
     begun-desks e = let on = went-on (tableCases d table) (((eqb desks zero || ltb 32 desks) gives BadDesks) ∷ []) Done right in rw (on, e) refl
 
     pub begun-right : (eqb desks zero || ltb 32 desks) ≡ false
-        → record { answer = judged (tableCases d table) Done; sheet = freshSheet d (length table) desks } ≡ begun d table desks
-    unfolding begunAnswer begunSheet judged accepted
+        → record { answer = decided (tableCases d table) Done; sheet = freshSheet d (length table) desks } ≡ begun d table desks
+    unfolding begunAnswer begunSheet decided accepted
     begun-right e =
         let on = went-on (tableCases d table) (((eqb desks zero || ltb 32 desks) gives BadDesks) ∷ []) Done right in
         rw (on, e, done (tableCases d table) right) refl
@@ -106,41 +106,41 @@ module _ (d : ℕ) (table : List ℕ) (s : Sheet) (k : ℕ) (c : Call) (old : Li
   refused a e n = (rw (e, n) refl, rw e (sym (silent-refusal d (view table (hides (s .marks) k) (own s k)) old a n)))
 
   -- refusals 1 and 2
-  pub table-refused : accepted (judged (tableCases d table) Done) ≡ false
-      → Outcome d table s k c old (record { answer = judged (tableCases d table) Done; sheet = s }) old
+  pub table-refused : accepted (decided (tableCases d table) Done) ≡ false
+      → Outcome d table s k c old (record { answer = decided (tableCases d table) Done; sheet = s }) old
   unfolding answered
   table-refused e =
-      refused (judged (tableCases d table) Done)
+      refused (decided (tableCases d table) Done)
       (stopped (tableCases d table) (sheetCases d table s k) (serve d table (crowded s) (length old) (hides (s .marks) k) (own s k) c) e)
       e
 
-  module _ (right : accepted (judged (tableCases d table) Done) ≡ true) where
-    on : answered d table s k c (length old) ≡ judged (sheetCases d table s k) (serve d table (crowded s) (length old) (hides (s .marks) k) (own s k) c)
+  module _ (right : accepted (decided (tableCases d table) Done) ≡ true) where
+    on : answered d table s k c (length old) ≡ decided (sheetCases d table s k) (serve d table (crowded s) (length old) (hides (s .marks) k) (own s k) c)
     unfolding answered
     on = went-on (tableCases d table) (sheetCases d table s k) (serve d table (crowded s) (length old) (hides (s .marks) k) (own s k) c) right
 
     -- refusal 3
     pub sheet-refused : sound s ≡ false → Outcome d table s k c old (record { answer = Refused Unsound; sheet = s }) old
-    unfolding sheetCases judged accepted
+    unfolding sheetCases decided accepted
     sheet-refused e = refused (Refused Unsound) (on ∙ (rw e refl)) refl
 
     module _ (whole : sound s ≡ true) where
       on-desk : answered d table s k c (length old)
-          ≡ judged (deskCases d (length table) (s .d) (s .rows) (s .desks) k) (serve d table (crowded s) (length old) (hides (s .marks) k) (own s k) c)
-      unfolding sheetCases judged
+          ≡ decided (deskCases d (length table) (s .d) (s .rows) (s .desks) k) (serve d table (crowded s) (length old) (hides (s .marks) k) (own s k) c)
+      unfolding sheetCases decided
       on-desk = on ∙ (rw whole refl)
 
       -- refusals 4 and 5
-      pub desk-refused : accepted (judged (deskCases d (length table) (s .d) (s .rows) (s .desks) k) Done) ≡ false
-          → Outcome d table s k c old (record { answer = judged (deskCases d (length table) (s .d) (s .rows) (s .desks) k) Done; sheet = s }) old
+      pub desk-refused : accepted (decided (deskCases d (length table) (s .d) (s .rows) (s .desks) k) Done) ≡ false
+          → Outcome d table s k c old (record { answer = decided (deskCases d (length table) (s .d) (s .rows) (s .desks) k) Done; sheet = s }) old
       desk-refused e =
           let cases = deskCases d (length table) (s .d) (s .rows) (s .desks) k in
-          refused (judged cases Done) (on-desk ∙ stopped cases [] (serve d table (crowded s) (length old) (hides (s .marks) k) (own s k) c) e) e
+          refused (decided cases Done) (on-desk ∙ stopped cases [] (serve d table (crowded s) (length old) (hides (s .marks) k) (own s k) c) e) e
 
-      module _ (known : accepted (judged (deskCases d (length table) (s .d) (s .rows) (s .desks) k) Done) ≡ true)
+      module _ (known : accepted (decided (deskCases d (length table) (s .d) (s .rows) (s .desks) k) Done) ≡ true)
           (a : Answer) (list : List ℕ) (served : Served d table s k c old a list) where
         here : answered d table s k c (length old) ≡ a
-        unfolding judged
+        unfolding decided
         here =
             on-desk
             ∙ went-on (deskCases d (length table) (s .d) (s .rows) (s .desks) k) [] (serve d table (crowded s) (length old) (hides (s .marks) k) (own s k) c) known
@@ -180,8 +180,8 @@ possible d table s counts k T c places t = go c (allowed d table (crowded s) pla
     go Count a = tt
     go Distinct a = tt
 
-module _ (d : ℕ) (table : List ℕ) (s : Sheet) (counts : List ℕ) (k : ℕ) (right : accepted (judged (tableCases d table) Done) ≡ true) (whole : sound s ≡ true)
-    (known : accepted (judged (deskCases d (length table) (s .d) (s .rows) (s .desks) k) Done) ≡ true) (counted : (j : ℕ) → j < 32 → at counts j ≡ held s j) where
+module _ (d : ℕ) (table : List ℕ) (s : Sheet) (counts : List ℕ) (k : ℕ) (right : accepted (decided (tableCases d table) Done) ≡ true) (whole : sound s ≡ true)
+    (known : accepted (decided (deskCases d (length table) (s .d) (s .rows) (s .desks) k) Done) ≡ true) (counted : (j : ℕ) → j < 32 → at counts j ≡ held s j) where
   -- the parts of the sheet are read with the d and T of the table lent
   same-parts : (sheetOf d (length table) (s .desks) (s .used) (s .marks) (s .sets) (s .owners) ≡ s) × (k < s .desks)
   same-parts =

@@ -18,7 +18,7 @@ use Rattle.store.specs.declared.Target.the-variants.{Table, Own}
 use Rattle.store.specs.declared.Call.{Call}
 use Rattle.store.specs.declared.Call.the-variants.{Delete, Insert, Reset, Look, Count, Distinct}
 use Rattle.store.specs.declared.Refusal.the-variants.{NoDesk}
-use Rattle.store.specs.Answers.{_gives_, judged, accepted}
+use Rattle.store.specs.Answers.{_gives_, decided, accepted}
 use Rattle.store.specs.Desks.{serve}
 use Rattle.store.specs.Calls.{badCase, tableCases, sheetCases, begunAnswer, begunSheet, crowded, answered, changed, sheetAfter}
 use Rattle.store.specs.Promise.{Turn, sheetOn}
@@ -55,8 +55,8 @@ module _ {d : ℕ} {table : List ℕ} {desks : ℕ} (good : Good d table desks) 
 
   -- of refusals 1 to 5, 5 alone is left
   pub answered-here : {s : Sheet} → Reached d table desks s → (k : ℕ) (c : Call) (places : ℕ) → answered d table s k c places
-      ≡ judged ((leb desks k gives NoDesk) ∷ []) (serve d table (crowded s) places (hides (s .marks) k) (own s k) c)
-  unfolding answered tableCases sheetCases badCase judged
+      ≡ decided ((leb desks k gives NoDesk) ∷ []) (serve d table (crowded s) places (hides (s .marks) k) (own s k) c)
+  unfolding answered tableCases sheetCases badCase decided
   answered-here {s} r k c places =
       rw (
         ne-eqb d zero (λ e. absurd (omega (arith, good .some-value))),
@@ -72,7 +72,7 @@ module _ {d : ℕ} {table : List ℕ} {desks : ℕ} (good : Good d table desks) 
   -- what an accepted call has
   pub call-has : {s : Sheet} → Reached d table desks s → (k : ℕ) (c : Call) (places : ℕ) → accepted (answered d table s k c places) ≡ true
       → (k < desks) × Allowed d (length table) (crowded s) (own s k) c
-  unfolding judged
+  unfolding decided
   call-has {s} r k c places t =
       let a = serve d table (crowded s) places (hides (s .marks) k) (own s k) c in
       let p = passed (leb desks k) NoDesk [] a (sym (ap accepted (answered-here r k c places)) ∙ t) in

@@ -20,7 +20,7 @@ use Rattle.store.specs.declared.Refusal.{Refusal}
 use Rattle.store.specs.declared.Refusal.the-variants.{TooLarge, BadRow, Unsound, OtherTable, NoDesk, NoRow, HiddenAlready, BadSet, Full, NoRoom, ShortList, LongView, BadDesks}
 use Rattle.store.specs.declared.Answer.{Answer}
 use Rattle.store.specs.declared.Answer.the-variants.{Done, Seen, Counted, Listed, Refused}
-use Rattle.store.specs.Answers.{Case, _gives_, judged, accepted, numberOf}
+use Rattle.store.specs.Answers.{Case, _gives_, decided, accepted, numberOf}
 use Rattle.store.specs.Desks.{view, serve, listAfter, telling}
 use Rattle.store.specs.Promise.{properCall}
 use Rattle.store.proofs.Judging.{skipped, applied}
@@ -35,7 +35,7 @@ module _ (table : List ℕ) (hid hid′ : ℕ → Bool) (own : List ℕ) (same :
       (those-ext (λ i. not (hid i)) (λ i. not (hid′ i)) table (length table) (λ i h. ap not (same i h)))
 
   pub serve-same : (d : ℕ) (full : Bool) (places : ℕ) (c : Call) → serve d table full places hid own c ≡ serve d table full places hid′ own c
-  unfolding serve judged
+  unfolding serve decided
   serve-same d full places (Delete (Table n)) = go (leb (length table) n) refl
     where
       go : (b : Bool) → leb (length table) n ≡ b → cond b (Refused NoRow) (cond (hid n) (Refused HiddenAlready) Done) ≡ cond b (Refused NoRow) (cond (hid′ n) (Refused HiddenAlready) Done)
@@ -83,7 +83,7 @@ ten-is (Refused BadDesks) e = absurd (omega arith)
 
 module _ (d : ℕ) (table : List ℕ) (full : Bool) (places : ℕ) (hid : ℕ → Bool) (own : List ℕ) where
   pub serve-ten : (c : Call) → numberOf (serve d table full places hid own c) ≡ 10 → (properCall d c ≡ true) × (8 ≤ length own) × (length own < 64) × (full ≡ true)
-  unfolding serve properCall judged
+  unfolding serve properCall decided
   serve-ten (Delete (Table n)) e =
       absurd (omega (
         arith,
@@ -115,7 +115,7 @@ module _ (d : ℕ) (table : List ℕ) (full : Bool) (places : ℕ) (hid : ℕ �
       ))
 
   pub ten-serve : (c : Call) → properCall d c ≡ true → 8 ≤ length own → length own < 64 → full ≡ true → numberOf (serve d table full places hid own c) ≡ 10
-  unfolding serve properCall judged
+  unfolding serve properCall decided
   ten-serve (Delete t) p lo hi f = absurd (false≢true p)
   ten-serve (Insert set) p lo hi f = rw (p, lt-leb 64 (length own) hi, le-leb 8 (length own) lo, f)
   ten-serve Reset p lo hi f = absurd (false≢true p)
@@ -125,7 +125,7 @@ module _ (d : ℕ) (table : List ℕ) (full : Bool) (places : ℕ) (hid : ℕ �
 
   -- a desk with fewer than eight rows has its next proper insert accepted
   pub serve-next : (c : Call) → properCall d c ≡ true → length own < 8 → accepted (serve d table full places hid own c) ≡ true
-  unfolding serve properCall judged accepted
+  unfolding serve properCall decided accepted
   serve-next (Delete t) p h = absurd (false≢true p)
   serve-next (Insert set) p h = rw (p, lt-leb 64 (length own) (omega arith), lt-leb 8 (length own) h)
   serve-next Reset p h = absurd (false≢true p)
@@ -135,7 +135,7 @@ module _ (d : ℕ) (table : List ℕ) (full : Bool) (places : ℕ) (hid : ℕ �
 
   -- one with fewer than 64 has it where some free place is not owed
   pub serve-free : (c : Call) → properCall d c ≡ true → length own < 64 → full ≡ false → accepted (serve d table full places hid own c) ≡ true
-  unfolding serve properCall judged accepted
+  unfolding serve properCall decided accepted
   serve-free (Delete t) p h f = absurd (false≢true p)
   serve-free (Insert set) p h f = rw (p, lt-leb 64 (length own) h, f, and-false (leb 8 (length own)))
   serve-free Reset p h f = absurd (false≢true p)
@@ -145,12 +145,12 @@ module _ (d : ℕ) (table : List ℕ) (full : Bool) (places : ℕ) (hid : ℕ �
 
   -- the other desks enter through `full` alone, and only by refusal 10
   pub serve-but-ten : (c : Call) → numberOf (serve d table full places hid own c) ≢ 10 → serve d table full places hid own c ≡ serve d table false places hid own c
-  unfolding serve judged
+  unfolding serve decided
   serve-but-ten (Delete (Table n)) ne = refl
   serve-but-ten (Delete (Own n)) ne = refl
   serve-but-ten (Insert set) ne = go (not (within d set)) (leb 64 (length own)) (leb 8 (length own)) full ne
     where
-      go : (a b c f : Bool) → let tests : Bool → Answer = λ x. judged ((a gives BadSet) ∷ (b gives Full) ∷ ((c && x) gives NoRoom) ∷ []) Done in
+      go : (a b c f : Bool) → let tests : Bool → Answer = λ x. decided ((a gives BadSet) ∷ (b gives Full) ∷ ((c && x) gives NoRoom) ∷ []) Done in
           numberOf (tests f) ≢ 10 → tests f ≡ tests false
       go true b c f ne = refl
       go false true c f ne = refl

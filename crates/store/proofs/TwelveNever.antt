@@ -25,7 +25,7 @@ use Rattle.store.specs.declared.Call.the-variants.{Delete, Insert, Reset
 use Rattle.store.specs.declared.Refusal.the-variants.{TooLarge, Unsound, OtherTable, NoDesk, NoRow, HiddenAlready, BadSet, Full, NoRoom, ShortList, LongView}
 use Rattle.store.specs.declared.Answer.{Answer}
 use Rattle.store.specs.declared.Answer.the-variants.{Done, Seen, Listed}
-use Rattle.store.specs.Answers.{Case, _gives_, judged, number, numberOf}
+use Rattle.store.specs.Answers.{Case, _gives_, decided, number, numberOf}
 use Rattle.store.specs.Desks.{view, serve}
 use Rattle.store.specs.Calls.{badCase, tableCases, sheetCases, crowded, answered}
 use Rattle.store.specs.Promise.{Turn, classStore, sheetOn}
@@ -39,7 +39,7 @@ view-most table hid own =
 
 module _ (d : ℕ) (table : List ℕ) (full : Bool) (places : ℕ) (hid : ℕ → Bool) (own : List ℕ) (small : length table ≤ 256) (few : length own ≤ 64) where
   not-served : (c : Call) → numberOf (serve d table full places hid own c) ≢ 12
-  unfolding serve judged
+  unfolding serve decided
   not-served (Delete (Table n)) e =
       omega (arith, skipped 12 (hid n) HiddenAlready [] Done (omega arith) (skipped 12 (leb (length table) n) NoRow ((hid n gives HiddenAlready) ∷ []) Done (omega arith) e .1) .1)
   not-served (Delete (Own n)) e = omega (arith, skipped 12 (leb (length own) n) NoRow [] Done (omega arith) e .1)
@@ -65,7 +65,7 @@ not-bad (At i) = omega arith
 
 -- on any sheet, whoever handed it
 pub never-twelve : (d : ℕ) (table : List ℕ) (s : Sheet) (k : ℕ) (c : Call) (places : ℕ) → numberOf (answered d table s k c places) ≢ 12
-unfolding answered tableCases sheetCases judged
+unfolding answered tableCases sheetCases decided
 never-twelve d table s k c places e =
     let a = serve d table (crowded s) places (hides (s .marks) k) (own s k) c in
     let desk : List Case = (leb (s .desks) k gives NoDesk) ∷ [] in

@@ -22,7 +22,7 @@ use Rattle.store.specs.declared.Call.the-variants.{Delete, Insert, Look,
 use Rattle.store.specs.declared.Refusal.the-variants.{NoDesk, NoRow, HiddenAlready, NoRoom}
 use Rattle.store.specs.declared.Answer.{Answer}
 use Rattle.store.specs.declared.Answer.the-variants.{Done, Seen, Counted, Refused}
-use Rattle.store.specs.Answers.{_gives_, judged, accepted, numberOf}
+use Rattle.store.specs.Answers.{_gives_, decided, accepted, numberOf}
 use Rattle.store.specs.Desks.{view, serve, Told}
 use Rattle.store.specs.Calls.{begunAnswer}
 use Rattle.store.specs.Promise.{Turn, Store, hiddenIn, ownIn, member, alone, history, heldBy, usedBy, owedBy, properCall, proper, Demand3, sheetOn, classStore}
@@ -87,7 +87,7 @@ module _ {d : ℕ} {table : List ℕ} {desks : ℕ} {tell : Store} (begun : acce
   -- what is accepted is of a desk that is there
   accepted-alone : (past : List Turn) (k : ℕ) (c : Call) (list : List ℕ) → properCall d c ≡ false → accepted (tell past (turn k c list) .answer) ≡ true
       → (k < desks) × (accepted (served k c list past) ≡ true)
-  unfolding alone judged
+  unfolding alone decided
   accepted-alone past k c list off t =
       let p = passed (leb desks k) NoDesk [] (served k c list past) (sym (ap (λ (a : Told). accepted (a .answer)) (told-alone past (turn k c list) off)) ∙ t) in
       (leb-false desks k (p .0), p .1)
@@ -110,7 +110,7 @@ module _ {d : ℕ} {table : List ℕ} {desks : ℕ} {tell : Store} (begun : acce
 
   pub no-made-up-count : (past : List Turn) (k : ℕ) (list : List ℕ) → k < desks
       → tell past (turn k Count list) .answer ≡ Counted (length (seen k past)) (heldBy tell k past)
-  unfolding properCall serve judged
+  unfolding properCall serve decided
   no-made-up-count past k list h = answered-alone past k Count list h refl
 
   -- ---- a delete that answers yes and hides nothing
@@ -140,7 +140,7 @@ module _ {d : ℕ} {table : List ℕ} {desks : ℕ} {tell : Store} (begun : acce
       → (list′ : List ℕ) → (r : ℕ) × (tell past (turn k Count list′) .answer ≡ Counted (suc r) (heldBy tell k past))
       × (tell (t ∷ past) (turn k Count list′) .answer ≡ Counted r (heldBy tell k past))
       × (tell (t ∷ past) (turn k (Delete (Table n)) list′) .answer ≡ Refused HiddenAlready)
-  unfolding serve judged properCall hiddenIn ownIn member
+  unfolding serve decided properCall hiddenIn ownIn member
   no-delete-hides-nothing past k n list t list′ =
       let after = turn k (Delete (Table n)) list ∷ past in
       let q = delete-has past k n list t in
@@ -176,7 +176,7 @@ module _ {d : ℕ} {table : List ℕ} {desks : ℕ} {tell : Store} (begun : acce
 
   delete-done : (past : List Turn) (k n : ℕ) (list : List ℕ) → k < desks → n < length table → member (hiddenIn (history tell k past)) n ≡ false
       → tell past (turn k (Delete (Table n)) list) .answer ≡ Done
-  unfolding serve judged properCall
+  unfolding serve decided properCall
   delete-done past k n list h l e = answered-alone past k (Delete (Table n)) list h refl ∙ rw (lt-leb (length table) n l, e)
 
   pub no-delete-honours-its-first-call-only : (past : List Turn) (k n m : ℕ) (list list′ : List ℕ) → let t = turn k (Delete (Table n)) list in
@@ -201,7 +201,7 @@ module _ {d : ℕ} {table : List ℕ} {desks : ℕ} {tell : Store} (begun : acce
 
   pub no-freed-place-is-lost : (past : List Turn) (t : Turn) → proper d desks t ≡ true → heldBy tell (t .desk) past < 64
       → usedBy tell desks past + owedBy tell desks past < 512 → accepted (tell past t .answer) ≡ true
-  unfolding proper alone judged
+  unfolding proper alone decided
   no-freed-place-is-lost past t p few room =
       let not-ten : numberOf (tell past t .answer) ≢ 10 = λ e. absurd (omega (arith, keeps .no-room past t .0 e .3)) in
       let h = history tell (t .desk) past in
@@ -227,7 +227,7 @@ module _ {d : ℕ} {table : List ℕ} {desks : ℕ} {tell : Store} (begun : acce
 
   pub no-look-shows-the-class-list : (past : List Turn) (k n : ℕ) (list : List ℕ) → k < desks → n < length (seen k past)
       → tell past (turn k (Look n) list) .answer ≡ Seen (at (seen k past) n)
-  unfolding serve judged properCall
+  unfolding serve decided properCall
   no-look-shows-the-class-list past k n list h l = answered-alone past k (Look n) list h refl ∙ rw (lt-leb (length (seen k past)) n l)
 
   pub no-desk-tells-on-another : (past past′ : List Turn) (t : Turn) → properCall d (t .call) ≡ false → history tell (t .desk) past ≡ history tell (t .desk) past′

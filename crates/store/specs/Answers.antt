@@ -73,6 +73,6 @@ b gives r = record { applies = b; refusal = r }
 
 infix 4 _gives_
 -- the first of the cases that applies; where none does, the answer
-unfoldable pub judged : List Case → Answer → Answer
-judged [] a = a
-judged (c ∷ cs) a = cond (c .applies) (Refused (c .refusal)) (judged cs a)
+unfoldable pub decided : List Case → Answer → Answer
+decided [] a = a
+decided (c ∷ cs) a = cond (c .applies) (Refused (c .refusal)) (decided cs a)

@@ -17,7 +17,7 @@ use Rattle.store.specs.declared.Refusal.the-variants.{TooLarge, BadRow, 
 use Rattle.store.specs.declared.Answer.{Answer}
 use Rattle.store.specs.declared.Answer.the-variants.{Done}
 use Rattle.store.specs.declared.Reply.{Reply}
-use Rattle.store.specs.Answers.{Case, _gives_, judged, accepted}
+use Rattle.store.specs.Answers.{Case, _gives_, decided, accepted}
 use Rattle.store.specs.Desks.{serve, Told, telling}
 
 -- ---- refusals 1 and 2, of any call
@@ -33,7 +33,7 @@ tableCases d table = ((eqb d zero || ltb 64 d || ltb 256 (length table)) gives T
 
 -- 'Begin is refused by 1, 2 and 13 only'
 unfoldable pub begunAnswer : ℕ → List ℕ → ℕ → Answer
-begunAnswer d table desks = judged (tableCases d table ++ (((eqb desks zero || ltb 32 desks) gives BadDesks) ∷ [])) Done
+begunAnswer d table desks = decided (tableCases d table ++ (((eqb desks zero || ltb 32 desks) gives BadDesks) ∷ [])) Done
 
 -- 'a fresh sheet for this d and T'; refused, 'it then returns a sheet of zeros, which isn't sound'
 unfoldable pub begunSheet : ℕ → List ℕ → ℕ → Sheet
@@ -59,7 +59,7 @@ sheetCases d table s k = (not (sound s) gives Unsound) ∷ deskCases d (length t
 -- what desk k is answered
 unfoldable pub answered : ℕ → List ℕ → Sheet → ℕ → Call → ℕ → Answer
 answered d table s k c places =
-    judged (tableCases d table ++ sheetCases d table s k) (serve d table (crowded s) places (hides (s .marks) k) (own s k) c)
+    decided (tableCases d table ++ sheetCases d table s k) (serve d table (crowded s) places (hides (s .marks) k) (own s k) c)
 
 -- what an accepted call makes of the sheet; 'Nothing else on the sheet changes'
 unfoldable pub changed : Sheet → ℕ → Call → Sheet

@@ -1,6 +1,6 @@
 // Refusals 1 and 2: whether a table may be lent.
 ghost use mathlib.Core.Path.{_≡_};
-ghost use Rattle.store.specs.Answers.{judged};
+ghost use Rattle.store.specs.Answers.{decided};
 ghost use Rattle.store.specs.declared.Answer.the-variants.{Done};
 ghost use Rattle.store.specs.Calls.{tableCases};
 use crate::Answer;
@@ -10,7 +10,7 @@ use sheet::Sheet;
 
 // Done where neither applies.
 pub fn judge(table: &[u64], d: usize) -> Answer
-    ensures { λ r. ⌜ r ≡ judged (tableCases d (now (table .entry))) Done ⌝ }
+    ensures { λ r. ⌜ r ≡ decided (tableCases d (now (table .entry))) Done ⌝ }
 {
     if d == 0 {
         return Answer::Refused(Refusal::TooLarge);

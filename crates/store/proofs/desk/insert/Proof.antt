@@ -1,7 +1,7 @@
 -- `insert` meets its contract. Assumes nothing.
 use mathlib.Core.Path.{sym, _∙_}
 use borrow.Author.Tests.{le-leb, lt-leb, not-true, not-false}
-use Rattle.store.specs.Answers.{judged}
+use Rattle.store.specs.Answers.{decided}
 use borrow.Author.Needs.{needs}
 use Rattle.store.proofs.desk.insert.Statement.{statement}
 use Rattle.store.proofs.desk.insert.Tie as tie
@@ -10,23 +10,23 @@ within-requires : tie.Need-within-requires
 within-requires c κs = search needs
 
 returns : tie.Need-returns
-unfolding judged
+unfolding decided
 returns c = simp (sym (c .before .within .ensures) ∙ not-true (c .before .within .result) (c .if1 .taken))
 
 returns-2 : tie.Need-returns-2
-unfolding judged
+unfolding decided
 returns-2 c = simp (sym (c .before .before .within .ensures) ∙ not-false (c .before .before .within .result) (c .before .if1 .left), le-leb _ _ (c .if2 .taken))
 
 returns-3 : tie.Need-returns-3
-unfolding judged
+unfolding decided
 returns-3 c = simp (sym (c .before .before .before .within .ensures) ∙ not-false (c .before .before .before .within .result) (c .before .before .if1 .left), lt-leb _ _ (c .before .if2 .left), lt-leb _ _ (c .if3 .taken))
 
 returns-4 : tie.Need-returns-4
-unfolding judged
+unfolding decided
 returns-4 c = simp (sym (c .before .before .before .before .within .ensures) ∙ not-false (c .before .before .before .before .within .result) (c .before .before .before .if1 .left), lt-leb _ _ (c .before .before .if2 .left), le-leb _ _ (c .before .if3 .left), c .if4 .taken)
 
 returns-5 : tie.Need-returns-5
-unfolding judged
+unfolding decided
 returns-5 c = simp (sym (c .before .before .before .before .within .ensures) ∙ not-false (c .before .before .before .before .within .result) (c .before .before .before .if1 .left), lt-leb _ _ (c .before .before .if2 .left), le-leb _ _ (c .before .if3 .left), c .if4 .left)
 
 pub insert-spec : {M : Type 1} → statement M

@@ -1,12 +1,12 @@
 -- `look` meets its contract. Assumes nothing.
 use borrow.Author.Tests.{le-leb, lt-leb}
-use Rattle.store.specs.Answers.{judged}
+use Rattle.store.specs.Answers.{decided}
 use borrow.Author.Needs.{needs}
 use Rattle.store.proofs.desk.look.Statement.{statement}
 use Rattle.store.proofs.desk.look.Tie as tie
 
 returns : tie.Need-returns
-unfolding judged
+unfolding decided
 returns c = simp (le-leb _ _ (c .if1 .taken))
 
 mul-t3 : tie.Need-mul-t3
@@ -16,7 +16,7 @@ shared-slice-read-t7 : tie.Need-shared-slice-read-t7
 shared-slice-read-t7 c = search needs
 
 returns-2 : tie.Need-returns-2
-unfolding judged
+unfolding decided
 returns-2 c = simp (lt-leb _ _ (c .before .if1 .left))
 
 pub look-spec : {M : Type 1} → statement M

@@ -1,22 +1,22 @@
 -- `judge` meets its contract: the tests in the order of `tableCases`. Assumes nothing.
 use mathlib.Core.Path.{sym, _∙_}
 use borrow.Author.Tests.{eq-eqb, ne-eqb, lt-ltb, le-ltb}
-use Rattle.store.specs.Answers.{judged}
+use Rattle.store.specs.Answers.{decided}
 use Rattle.store.specs.Calls.{badCase, tableCases}
 use borrow.Author.Needs.{needs}
 use Rattle.store.proofs.table.judge.Statement.{statement}
 use Rattle.store.proofs.table.judge.Tie as tie
 
 returns : tie.Need-returns
-unfolding judged badCase tableCases
+unfolding decided badCase tableCases
 returns c = simp (eq-eqb _ _ (c .if1 .taken))
 
 returns-2 : tie.Need-returns-2
-unfolding judged badCase tableCases
+unfolding decided badCase tableCases
 returns-2 c = simp (ne-eqb _ _ (c .before .if1 .left), lt-ltb _ _ (c .if2 .taken))
 
 returns-3 : tie.Need-returns-3
-unfolding judged badCase tableCases
+unfolding decided badCase tableCases
 returns-3 c = simp (ne-eqb _ _ (c .before .before .if1 .left), le-ltb _ _ (c .before .if2 .left), lt-ltb _ _ (c .if3 .taken))
 
 bad-row-requires : tie.Need-bad-row-requires
@@ -29,11 +29,11 @@ enum-known-bad : tie.Need-enum-known-bad
 enum-known-bad c = search needs
 
 returns-4 : tie.Need-returns-4
-unfolding judged badCase tableCases
+unfolding decided badCase tableCases
 returns-4 c = simp (ne-eqb _ _ (c .before .before .before .before .before .if1 .left), le-ltb _ _ (c .before .before .before .before .if2 .left), le-ltb _ _ (c .before .before .before .if3 .left), sym (c .before .before .bad-row .ensures) ∙ c .enum-told .given .1)
 
 returns-5 : tie.Need-returns-5
-unfolding judged badCase tableCases
+unfolding decided badCase tableCases
 returns-5 c = simp (ne-eqb _ _ (c .before .before .before .before .before .before .if1 .left), le-ltb _ _ (c .before .before .before .before .before .if2 .left), le-ltb _ _ (c .before .before .before .before .if3 .left), sym (c .before .before .before .bad-row .ensures) ∙ c .before .bad .given .1)
 
 pub judge-spec : {M : Type 1} → statement M

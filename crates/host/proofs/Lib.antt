@@ -1,0 +1,2 @@
+-- `Determined`: the contracts leave no choice.
+pub mod Determined
