@@ -32,9 +32,6 @@ module _ (view : List ℕ) (ms : List Bool) (s : Seats) (rows columns mates : Li
   small′ : (j : ℕ) → Below (s′ .d) (at view j)
   small′ j v t = subst (λ (d : ℕ). v < d) (sym (O .column)) (G .small j v t)
 
-  places-long : length (take (s .used) rows) ≡ length is
-  places-long = ap length (G .listed) ∙ length-map is (at view)
-
   -- it has got one
   module _ (T : Raised (at view i) s rows s′ rows′) where
     listed′ : take (s′ .used) rows′ ≡ rowsAt view (is ++ i ∷ [])

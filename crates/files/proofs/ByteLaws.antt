@@ -46,10 +46,6 @@ pub union-next : (f : ℕ → ℕ) (n : ℕ) → unionTo f (n + 1) ≡ bitOr (un
 unfolding unionTo
 union-next f n = rw (add-one n) refl
 
-pub list-next : (f : ℕ → ℕ) (n : ℕ) → listTo f (n + 1) ≡ listTo f n ++ (f n ∷ [])
-unfolding listTo
-list-next f n = rw (add-one n) refl
-
 -- none below n passes: n is the lowest that does, or none below n + 1 does
 pub lowest-here : (f : ℕ → Bool) (n : ℕ) → lowestTo f n ≡ Nothing → f n ≡ true → lowestTo f (n + 1) ≡ At n
 unfolding lowestTo

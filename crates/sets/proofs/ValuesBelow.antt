@@ -88,14 +88,6 @@ within-less d r e = below-less d r (and-right (not (eqb r zero)) (below d r) e)
 pub within-has : (d r v : ℕ) → within d r ≡ true → has r v ≡ true → v < d
 within-has d r v e h = has-less d r v (within-less d r e) h
 
--- a set with a value, and none from d on, is a row
-pub has-within : (d r v : ℕ) → has r v ≡ true → ((u : ℕ) → has r u ≡ true → u < d) → within d r ≡ true
-unfolding within
-has-within d r v h f =
-    and-both (not (eqb r zero)) (below d r)
-    (ap not (ne-eqb r zero (λ z. not-both h (ap (λ (x : ℕ). has x v) z ∙ has-empty v))))
-    (less-below d r (less-has d r f))
-
 -- ---- differences and unions
 
 pub minus-word : (k a b : ℕ) → a < 2 ^ k → minus a b < 2 ^ k

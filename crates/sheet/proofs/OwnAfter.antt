@@ -108,17 +108,10 @@ module _ (s : Sheet) (k from upto : ℕ) where
   pub used-without : without s k from upto .used ≤ s .used
   used-without = count-le (stays (s .owners) k from upto) (s .used)
 
-pub held-without-one : (s : Sheet) (k n : ℕ) → n < held s k → suc (held (without s k n (suc n)) k) ≡ held s k
-held-without-one s k n h =
-    omega (arith, held-without-same s k n (suc n) (omega arith), length-take n (own s k), length-drop (suc n) (own s k), length-own s k)
-
 pub own-without-all : (s : Sheet) (k : ℕ) → s .used ≤ 512 → own (without s k zero 512) k ≡ []
 own-without-all s k h =
     own-without-same s k zero 512 (omega arith)
     ∙ drop-of-length-le (own s k) {i = 512} (omega (arith, length-own s k, count-le (owns (s .owners) k) (s .used)))
-
-pub held-without-all : (s : Sheet) (k : ℕ) → s .used ≤ 512 → held (without s k zero 512) k ≡ zero
-held-without-all s k h = sym (length-own (without s k zero 512) k) ∙ ap length (own-without-all s k h)
 
 pub whole-without : {s : Sheet} (k from upto : ℕ) → Whole s → s .used ≤ 512 → Whole (without s k from upto)
 whole-without {s} k from upto w h =

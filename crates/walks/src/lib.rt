@@ -1,2 +1,1 @@
 // Nothing to run: laws for the proofs that are done by hand.
-pub fn nothing() {}
