@@ -13,7 +13,7 @@ use Rattle.files.specs.declared.Fault.{Fault}
 use Rattle.files.specs.declared.Fault.the-variants.{ShortFile, WrongMark, WrongVersion, BadValues, ManyRows, ShortRows, AllUnknown}
 use Rattle.files.specs.declared.Lesson.{Lesson}
 use Rattle.files.specs.declared.Lesson.the-variants.{Read, Refused}
-use Rattle.files.specs.Bytes.{lowestTo}
+use Rattle.files.specs.Rows.{lowestTo}
 use Rattle.files.specs.Files.{markIn, versionIn, valuesIn, countIn, rowIn, unionIn}
 use Rattle.files.specs.Reading.{valuesOf, countOf, judgedRows, judged}
 

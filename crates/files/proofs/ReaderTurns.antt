@@ -13,7 +13,7 @@ use Rattle.files.specs.declared.Fault.{Fault}
 use Rattle.files.specs.declared.Lesson.the-variants.{Read, Refused}
 use Rattle.files.specs.declared.Row.the-variants.{Cell, NoMore}
 use Rattle.files.specs.declared.Step.{Step}
-use Rattle.files.specs.Bytes.{listTo}
+use Rattle.files.specs.Rows.{listTo}
 use Rattle.files.specs.Files.{countIn, cellIn}
 use Rattle.files.specs.Reading.{judged, filled}
 use Rattle.files.specs.Turns.{stepAt, cursor, handedOut}

@@ -3,7 +3,8 @@ use Prim.Native.Nat.{ℕ, zero, _+_, _*_}
 use mathlib.Core.Bool.{cond}
 use mathlib.Core.List.{List}
 use lib.Dec.{eqb}
-use Rattle.files.specs.Bytes.{big, listTo, unionTo}
+use Rattle.files.specs.Bytes.{big}
+use Rattle.files.specs.Rows.{listTo, unionTo}
 
 module _ (file : List ℕ) where
   -- 'Bytes 0 to 2 are the mark "PVT" (50 56 54), 3 and 4 the version 1, 5 is d, 6 and 7 the row count T.'

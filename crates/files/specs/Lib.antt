@@ -1,5 +1,6 @@
--- `Bytes`: numbers in bytes. `Files`: what a lesson file says. `Reading`: the refusals, and what `read` leaves. `Turns`: the reader, row by row.
+-- `Bytes`: numbers in bytes. `Rows`: the first n rows. `Files`: what a lesson file says. `Reading`: the refusals, and what `read` leaves. `Turns`: the reader, row by row.
 pub mod Bytes
+pub mod Rows
 pub mod Files
 pub mod Reading
 pub mod Turns

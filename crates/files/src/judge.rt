@@ -4,7 +4,7 @@ ghost use mathlib.Core.Bool.{not};
 ghost use Prim.Native.Nat.{_≤_, _+_, _*_};
 ghost use lib.ListN.{length};
 ghost use Rattle.sets.specs.Sets.{below};
-ghost use Rattle.files.specs.Bytes.{unionTo, lowestTo};
+ghost use Rattle.files.specs.Rows.{unionTo, lowestTo};
 ghost use Rattle.files.specs.Files.{rowIn};
 ghost use Rattle.files.specs.Reading.{judgedRows, judged};
 use crate::Fault;

@@ -4,7 +4,8 @@ ghost use Prim.Native.Nat.{_≤_, _<_, _+_, _*_};
 ghost use mathlib.Core.Bool.{not};
 ghost use lib.ListN.{length};
 ghost use Rattle.sets.specs.Sets.{below};
-ghost use Rattle.files.specs.Bytes.{big, unionTo, lowestTo};
+ghost use Rattle.files.specs.Bytes.{big};
+ghost use Rattle.files.specs.Rows.{unionTo, lowestTo};
 ghost use Rattle.files.specs.Files.{rowIn};
 use sets::Found;
 

@@ -5,9 +5,9 @@ use mathlib.Core.List.{_++_}
 use native.Mathlib.Omega.{arith}
 use borrow.Author.Needs.{needs}
 use lib.ListN.{drop}
-use Rattle.files.specs.Bytes.{listTo}
+use Rattle.files.specs.Rows.{listTo}
 use Rattle.files.specs.Files.{cellIn}
-use Rattle.files.proofs.ByteLaws.{Filling, filling-start, filling-next, filling-end}
+use Rattle.files.proofs.Filling.{Filling, filling-start, filling-next, filling-end}
 use Rattle.files.proofs.fill.Statement.{statement}
 use Rattle.files.proofs.fill.Tie as tie
 

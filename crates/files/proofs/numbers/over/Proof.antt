@@ -6,9 +6,9 @@ use native.Mathlib.Omega.{arith}
 use borrow.Author.Needs.{needs}
 use Rattle.sets.specs.declared.Found.the-variants.{Nothing}
 use Rattle.sets.specs.Sets.{below}
-use Rattle.files.specs.Bytes.{lowestTo}
+use Rattle.files.specs.Rows.{lowestTo}
 use Rattle.files.specs.Files.{rowIn}
-use Rattle.files.proofs.ByteLaws.{lowest-here, lowest-pass, lowest-stays}
+use Rattle.files.proofs.RowLaws.{lowest-here, lowest-pass, lowest-stays}
 use Rattle.files.proofs.numbers.over.Statement.{statement}
 use Rattle.files.proofs.numbers.over.Tie as tie
 

@@ -3,9 +3,9 @@ use Prim.Native.Nat.{ℕ, _-_, _≤_}
 use mathlib.Core.Path.{_≡_, refl, sym, ap, _∙_}
 use native.Mathlib.Omega.{arith}
 use borrow.Author.Needs.{needs}
-use Rattle.files.specs.Bytes.{unionTo}
+use Rattle.files.specs.Rows.{unionTo}
 use Rattle.files.specs.Files.{rowIn}
-use Rattle.files.proofs.ByteLaws.{union-next}
+use Rattle.files.proofs.RowLaws.{union-next}
 use Rattle.files.proofs.numbers.union.Statement.{statement}
 use Rattle.files.proofs.numbers.union.Tie as tie
 
