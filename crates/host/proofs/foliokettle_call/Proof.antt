@@ -1,5 +1,7 @@
 -- `foliokettle_call` meets its contract. Assumes nothing.
-use mathlib.Core.Path.{refl, sym, _∙_}
+use mathlib.Core.Path.{refl, sym, ap, _∙_}
+use Rattle.store.specs.declared.Reply.{Reply}
+use Rattle.host.specs.Spoken.{toldOf}
 use borrow.Author.Needs.{needs}
 use Rattle.host.proofs.foliokettle_call.Statement.{statement}
 use Rattle.host.proofs.foliokettle_call.Tie as tie
@@ -24,8 +26,10 @@ same-length c = search needs
 
 returns : tie.Need-returns
 returns c = let call = sym (c .before .before .before .before .before .before .before .before .before .heard .ensures) ∙ c .before .before .before .before .before .before .before .asked .given .1 in
-    let o = c .before .before .before .before .desk-call .ensures in
-    (rw (call, c .before .tell .ensures, o .0) refl, rw call (o .1))
+    let o = c .before .before .before .before .desk-call .ensures in (
+      rw call (λ i. record { told = (c .before .tell .ensures ∙ ap (λ (r : Reply). toldOf (r .answer)) (o .0)) i; sheet = o .0 i .sheet }),
+      rw call (o .1),
+    )
 
 returns-2 : tie.Need-returns-2
 returns-2 c = let e = sym (c .before .before .heard .ensures) ∙ c .enum-told .given .1 in (rw e refl, rw e refl)
