@@ -34,7 +34,7 @@ use Rattle.files.proofs.reader.Reader.next as next
 use Rattle.files.proofs.reader.Reader.next.Statement as stated
 use Rattle.files.proofs.reader.Reader.next.Code as code
 
--- `Reader<'a>`, as the referent's place in the signature
+-- what lies behind `self`: a reader, at the file's lifetime
 abbrev behind : Slot 2
 behind = plain (λ κs. readers.the-row (namedLft 2 1 tt κs))
 
