@@ -1,3 +1,4 @@
--- `Sets`: a row as a set of values. `Tables`: the lowest bad row of a table.
+-- `Limits`: the limits of document 01 by name. `Sets`: a row as a set of values. `Tables`: the lowest bad row of a table.
+pub mod Limits
 pub mod Sets
 pub mod Tables
