@@ -51,23 +51,43 @@ pub extern "C" fn foliokettle_call(
     ensures { λ r. ⌜ (r ≡ handedBy (askedBy kind n) d (now (table .entry)) sheet desk (length (now (list .entry)))) × (now (list .exit) ≡ listOf (askedBy kind n) d (now (table .entry)) sheet desk (now (list .entry))) ⌝ }
 {
     let asked = spoken::heard(kind, n);
-    match asked {
-        Asked::One(call) => {
-            let reply = store::desk_call(table, d, sheet, desk, call, list);
-            let answer = reply.answer;
-            let told = spoken::tell(answer);
-            let sheet = reply.sheet;
-            Handed { told, sheet }
-        }
-        Asked::Nothing => {
-            let told = Told {
-                refusal: 0xffff_ffff_ffff_ffff,
-                first: 0,
-                second: 0,
-            };
-            Handed { told, sheet }
-        }
-    }
+    let Asked::One(call) = asked else {
+        let told = Told {
+            refusal: 0xffff_ffff_ffff_ffff,
+            first: 0,
+            second: 0,
+        };
+        return Handed { told, sheet };
+    };
+    let mut marks = sheet.marks;
+    let mut sets = sheet.sets;
+    let mut owners = sheet.owners;
+    let outcome = store::parts::carry_out(
+        table,
+        d,
+        sheet.d,
+        sheet.rows,
+        sheet.desks,
+        sheet.used,
+        &mut marks,
+        &mut sets,
+        &mut owners,
+        desk,
+        call,
+        list,
+    );
+    let answer = outcome.answer;
+    let told = spoken::tell(answer);
+    let next = Sheet {
+        d: sheet.d,
+        rows: sheet.rows,
+        desks: sheet.desks,
+        used: outcome.used,
+        marks,
+        sets,
+        owners,
+    };
+    Handed { told, sheet: next }
 }
 
 // The same for a host that keeps a single sheet: the sheet becomes the one that `foliokettle_call` hands back.

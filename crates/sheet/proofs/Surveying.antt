@@ -12,6 +12,7 @@ use lib.ListN.{length, set, replicate, length-set, length-replicate, getD-replic
 use borrow.Author.Tests.{lt-ltb, le-ltb, eq-eqb, ne-eqb}
 use Rattle.sets.proofs.Bools.{and-both, or-left, or-right}
 use Rattle.theory.specs.Pairings.{at}
+use Rattle.sets.specs.Limits.{mostDesks, mostPlaces}
 use Rattle.sets.specs.Sets.{within}
 use Rattle.theory.proofs.Places.{at-same, at-other}
 use Rattle.sheet.specs.declared.Sheet.{Sheet}
@@ -51,14 +52,14 @@ module _ {used : ℕ} {sets owners : List ℕ} {next : ℕ} (s : Spare used sets
         | inr l ↦ s .before i l
       ]
 
-  pub spare-owner : at owners next ≢ zero → next < 512 → false ≡ allTo (spare used sets owners) 512
-  spare-owner ne h = sym (all-fails (spare used sets owners) 512 next h (rw (unused, ne-eqb (at owners next) zero ne) refl))
+  pub spare-owner : at owners next ≢ zero → next < mostPlaces → false ≡ allTo (spare used sets owners) mostPlaces
+  spare-owner ne h = sym (all-fails (spare used sets owners) mostPlaces next h (rw (unused, ne-eqb (at owners next) zero ne) refl))
 
-  pub spare-set : at owners next ≡ zero → at sets next ≢ zero → next < 512 → false ≡ allTo (spare used sets owners) 512
-  spare-set o ne h = sym (all-fails (spare used sets owners) 512 next h (rw (unused, eq-eqb (at owners next) zero o, ne-eqb (at sets next) zero ne) refl))
+  pub spare-set : at owners next ≡ zero → at sets next ≢ zero → next < mostPlaces → false ≡ allTo (spare used sets owners) mostPlaces
+  spare-set o ne h = sym (all-fails (spare used sets owners) mostPlaces next h (rw (unused, eq-eqb (at owners next) zero o, ne-eqb (at sets next) zero ne) refl))
 
-  pub spare-all : 512 ≤ next → true ≡ allTo (spare used sets owners) 512
-  spare-all h = sym (all-intro (spare used sets owners) 512 (λ i l. s .before i (omega arith)))
+  pub spare-all : mostPlaces ≤ next → true ≡ allTo (spare used sets owners) mostPlaces
+  spare-all h = sym (all-intro (spare used sets owners) mostPlaces (λ i l. s .before i (omega arith)))
 
 -- ---- the places that are used
 
@@ -66,18 +67,27 @@ module _ {used : ℕ} {sets owners : List ℕ} {next : ℕ} (s : Spare used sets
 pub record Tallied (s : Sheet) (counts : List ℕ) (next : ℕ) : Type 0 where
   pub upto : next ≤ s .used
   pub before : (i : ℕ) → i < next → owned s i ≡ true
-  pub long : length counts ≡ 32
-  pub counted : (k : ℕ) → k < 32 → at counts k ≡ countTo (owns (s .owners) k) next
+  pub long : length counts ≡ mostDesks
+  pub counted : (k : ℕ) → k < mostDesks → at counts k ≡ countTo (owns (s .owners) k) next
 
 module _ (s : Sheet) where
-  pub tally-start : Tallied s (replicate 32 zero) zero
+  pub tally-start : {counts : List ℕ} → counts ≡ replicate mostDesks zero → Tallied s counts zero
   unfolding countTo
-  tally-start = record { upto = omega arith; before = λ i h. absurd (not-suc-le-zero h); long = length-replicate 32 zero; counted = λ k h. getD-replicate 32 k zero zero h }
+  tally-start e = record {
+    upto = omega arith;
+    before = λ i h. absurd (not-suc-le-zero h);
+    long = ap length e ∙ length-replicate mostDesks zero;
+    counted = λ k h. ap (λ (l : List ℕ). at l k) e ∙ getD-replicate mostDesks k zero zero h;
+  }
 
   -- one used place is not right
-  pub tally-wrong : (counts : List ℕ) (i : ℕ) → i < s .used → owned s i ≡ false → Surveyed s (record { right = false; counts = counts })
+  pub tally-wrong : (counts : List ℕ) (i : ℕ) → i < s .used → owned s i ≡ false → length counts ≡ mostDesks → Surveyed placed s false counts
   unfolding placed
-  tally-wrong counts i h e = record { right-is = sym (ap (λ (b : Bool). b && allTo (λ j. ltb j (s .used) || empty s j) 512) (all-fails (owned s) (s .used) i h e)); counted = λ t. absurd (false≢true t) }
+  tally-wrong counts i h e long = record {
+    right-is = sym (ap (λ (b : Bool). b && allTo (λ j. ltb j (s .used) || empty s j) mostPlaces) (all-fails (owned s) (s .used) i h e));
+    counted = λ t. absurd (false≢true t);
+    long = long;
+  }
 
 module _ {s : Sheet} {counts : List ℕ} {next : ℕ} (t : Tallied s counts next) where
   pub tally-owner : s .desks ≤ at (s .owners) next → owned s next ≡ false
@@ -86,11 +96,15 @@ module _ {s : Sheet} {counts : List ℕ} {next : ℕ} (t : Tallied s counts next
   pub tally-row : at (s .owners) next < s .desks → within (s .d) (at (s .sets) next) ≡ false → owned s next ≡ false
   tally-row h e = rw (lt-ltb (at (s .owners) next) (s .desks) h, e) refl
 
+  -- as many counts as came in
+  pub tally-kept : {old : List ℕ} → old ≡ replicate mostDesks zero → length counts ≡ length old
+  tally-kept e = t .long ∙ sym (ap length e ∙ length-replicate mostDesks zero)
+
   -- so that a count can be raised
-  pub tally-small : (k : ℕ) → k < 32 → at counts k ≤ next
+  pub tally-small : (k : ℕ) → k < mostDesks → at counts k ≤ next
   tally-small k h = rw (t .counted k h) (count-le (owns (s .owners) k) next)
 
-  pub tally-more : next < s .used → at (s .owners) next < s .desks → s .desks ≤ 32 → within (s .d) (at (s .sets) next) ≡ true
+  pub tally-more : next < s .used → at (s .owners) next < s .desks → s .desks ≤ mostDesks → within (s .d) (at (s .sets) next) ≡ true
       → Tallied s (set counts (at (s .owners) next) (suc (at counts (at (s .owners) next)))) (suc next)
   tally-more u h w e =
       record { upto = u; before = before; long = length-set counts o (suc (at counts o)) ∙ t .long; counted = λ k l. elim (ℕ-discrete k o) [ yes q ↦ same k l q | no ne ↦ other k l ne ] }
@@ -104,20 +118,21 @@ module _ {s : Sheet} {counts : List ℕ} {next : ℕ} (t : Tallied s counts next
         | inr m ↦ t .before i m
       ]
 
-      same : (k : ℕ) → k < 32 → k ≡ o → at (set counts o (suc (at counts o))) k ≡ countTo (owns (s .owners) k) (suc next)
+      same : (k : ℕ) → k < mostDesks → k ≡ o → at (set counts o (suc (at counts o))) k ≡ countTo (owns (s .owners) k) (suc next)
       same k l q =
           ap (at (set counts o (suc (at counts o)))) q ∙ at-same counts o (suc (at counts o)) (omega (arith, t .long))
           ∙ ap (λ (j : ℕ). suc (at counts j)) (sym q) ∙ ap suc (t .counted k l) ∙ sym (count-yes (owns (s .owners) k) next (eq-eqb o k (sym q)))
 
-      other : (k : ℕ) → k < 32 → k ≢ o → at (set counts o (suc (at counts o))) k ≡ countTo (owns (s .owners) k) (suc next)
+      other : (k : ℕ) → k < mostDesks → k ≢ o → at (set counts o (suc (at counts o))) k ≡ countTo (owns (s .owners) k) (suc next)
       other k l ne =
           at-other counts o (suc (at counts o)) k ne ∙ t .counted k l ∙ sym (count-no (owns (s .owners) k) next (ne-eqb o k (λ q. ne (sym q))))
 
-  pub tally-all : s .used ≤ next → (right : Bool) → right ≡ allTo (spare (s .used) (s .sets) (s .owners)) 512 → Surveyed s (record { right = right; counts = counts })
+  pub tally-all : s .used ≤ next → (right : Bool) → right ≡ allTo (spare (s .used) (s .sets) (s .owners)) mostPlaces → Surveyed placed s right counts
   unfolding placed
   tally-all h right e =
       let all : next ≡ s .used = omega (arith, t .upto) in
       record {
-        right-is = e ∙ sym (ap (λ (b : Bool). b && allTo (spare (s .used) (s .sets) (s .owners)) 512) (all-intro (owned s) (s .used) (λ i l. t .before i (omega arith))));
+        right-is = e ∙ sym (ap (λ (b : Bool). b && allTo (spare (s .used) (s .sets) (s .owners)) mostPlaces) (all-intro (owned s) (s .used) (λ i l. t .before i (omega arith))));
         counted = λ _ k l. t .counted k l ∙ ap (countTo (owns (s .owners) k)) all;
+        long = t .long;
       }

@@ -1,13 +1,14 @@
 -- What is learnt of a sheet that may be damaged: of its places, of its marks, and of all of it.
 use Prim.Native.Nat.{ℕ, zero, _+_, _*_, _/_, _%_, _<_}
 use mathlib.Core.Path.{_≡_}
-use mathlib.Core.Bool.{true}
+use mathlib.Core.Bool.{Bool, true}
 use mathlib.Core.List.{List, []}
+use lib.ListN.{length}
+use Rattle.sets.specs.Limits.{mostDesks}
 use Rattle.sets.specs.Sets.{has}
 use Rattle.theory.specs.Pairings.{at}
 use Rattle.sheet.specs.declared.Sheet.{Sheet}
-use Rattle.sheet.specs.declared.places.Survey.{Survey}
-use Rattle.sheet.specs.Sheets.{held, placed, sound}
+use Rattle.sheet.specs.Sheets.{held}
 
 -- the sheet of these parts
 abbrev pub sheetOf : ℕ → ℕ → ℕ → ℕ → List ℕ → List ℕ → List ℕ → Sheet
@@ -18,11 +19,6 @@ sheetOf d rows desks used marks sets owners = record { d = d; rows = rows; desks
 -- the places alone, as a sheet without a table
 abbrev pub placesOf : ℕ → ℕ → ℕ → List ℕ → List ℕ → Sheet
 placesOf d desks used sets owners = sheetOf d zero desks used [] sets owners
-
--- whether the places are as a sound sheet has them, and then how many rows each desk holds
-pub record Surveyed (s : Sheet) (r : Survey) : Type 0 where
-  pub right-is : r .right ≡ placed s
-  pub counted : r .right ≡ true → (k : ℕ) → k < 32 → at (r .counts) k ≡ held s k
 
 -- ---- the marks
 
@@ -35,9 +31,10 @@ pub record MayHide (desks rows word r : ℕ) : Type 0 where
   pub only : (v : ℕ) → has r v ≡ true → (word / 4 < desks) × (word % 4 * 64 + v < rows)
   pub all : (v : ℕ) → v < 64 → word / 4 < desks → word % 4 * 64 + v < rows → has r v ≡ true
 
--- ---- all of the sheet
+-- ---- what is answered
 
--- whether the sheet is sound, and then how many rows each desk holds
-pub record Checked (s : Sheet) (r : Survey) : Type 0 where
-  pub right-is : r .right ≡ sound s
-  pub counted : r .right ≡ true → (k : ℕ) → k < 32 → at (r .counts) k ≡ held s k
+-- whether the sheet is right in the way that is asked about, and then how many rows each desk holds
+pub record Surveyed (right : Sheet → Bool) (s : Sheet) (r : Bool) (counts : List ℕ) : Type 0 where
+  pub right-is : r ≡ right s
+  pub counted : r ≡ true → (k : ℕ) → k < mostDesks → at counts k ≡ held s k
+  pub long : length counts ≡ mostDesks

@@ -1,13 +1,14 @@
 // Whether a sheet is sound, however damaged it may be: the calls that follow may then trust it.
 ghost use mathlib.Core.Path.{_≡_};
 ghost use mathlib.Core.List.{[]};
-ghost use lib.ListN.{length};
+ghost use Prim.Native.Nat.{zero};
+ghost use lib.ListN.{replicate};
+ghost use Rattle.sets.specs.Limits.{mostDesks};
 ghost use Rattle.sheet.specs.Sheets.{shaped, sound};
-ghost use Rattle.sheet.specs.Surveys.{sheetOf, Checked};
+ghost use Rattle.sheet.specs.Surveys.{sheetOf, Surveyed};
 use crate::Sheet;
 use crate::marks;
 use crate::places;
-use crate::places::Survey;
 use crate::shares;
 
 // The four numbers of a sheet are within their limits.
@@ -32,7 +33,7 @@ fn shaped(d: usize, rows: usize, desks: usize, used: usize) -> bool
     used <= Sheet::PLACES
 }
 
-// `right` where the sheet of these parts is sound; then counts[k] is how many rows desk k holds.
+// Whether the sheet of these parts is sound. Where it is, counts[k], which comes in as 0, is how many rows desk k holds.
 pub fn check<'a>(
     d: usize,
     rows: usize,
@@ -41,37 +42,22 @@ pub fn check<'a>(
     marks: &'a [u64; Sheet::MARKS],
     sets: &'a [u64; Sheet::PLACES],
     owners: &'a [usize; Sheet::PLACES],
-) -> Survey
-    ensures { λ r. ⌜ Checked (sheetOf d rows desks used (now (marks .entry)) (now (sets .entry)) (now (owners .entry))) r ⌝ }
+    counts: &mut [usize],
+) -> bool
+    requires { ⌜ now counts ≡ replicate mostDesks zero ⌝ }
+    ensures { λ r. ⌜ Surveyed sound (sheetOf d rows desks used (now (marks .entry)) (now (sets .entry)) (now (owners .entry))) r (now (counts .exit)) ⌝ }
 {
     if !shaped(d, rows, desks, used) {
-        return Survey {
-            right: false,
-            counts: [0; Sheet::DESKS],
-        };
+        return false;
     }
-    let survey = places::go_over(d, desks, used, sets, owners);
-    let counts = survey.counts;
-    if !survey.right {
-        return Survey {
-            right: false,
-            counts,
-        };
+    if !places::go_over(d, desks, used, sets, owners, counts) {
+        return false;
     }
-    if !shares::none_over(desks, &counts) {
-        return Survey {
-            right: false,
-            counts,
-        };
+    if !shares::none_over(desks, counts) {
+        return false;
     }
-    if Sheet::PLACES < used + shares::owed(desks, &counts) {
-        return Survey {
-            right: false,
-            counts,
-        };
+    if Sheet::PLACES < used + shares::owed(desks, counts) {
+        return false;
     }
-    Survey {
-        right: marks::marks_right(desks, rows, marks),
-        counts,
-    }
+    marks::marks_right(desks, rows, marks)
 }

@@ -8,12 +8,12 @@ use native.Mathlib.Omega.{arith}
 use lib.Dec.{eqb, leb, ltb}
 use lib.ListN.{length}
 use borrow.Author.Tests.{eqb-true, leb-false, not-false}
-use Rattle.theory.specs.Pairings.{at}
 use Rattle.sets.proofs.Bools.{and-left, and-right}
 use Rattle.sheet.specs.declared.Sheet.{Sheet}
 use Rattle.sheet.specs.Sheets.{own, held, hides, sound}
-use Rattle.sheet.specs.Changes.{freshSheet}
-use Rattle.sheet.specs.Surveys.{sheetOf}
+use Rattle.sheet.specs.Changes.{freshSheet, marking, without}
+use Rattle.sheet.specs.Removals.{TakenOut}
+use Rattle.sheet.specs.Surveys.{sheetOf, Surveyed}
 use Rattle.sheet.proofs.UptoLaws.{sum-part}
 use Rattle.sheet.proofs.OwnAfter.{length-own}
 use Rattle.store.specs.declared.Target.the-variants.{Table, Own}
@@ -21,12 +21,12 @@ use Rattle.store.specs.declared.Call.{Call}
 use Rattle.store.specs.declared.Call.the-variants.{Delete, Insert, Reset, Look, Count, Distinct}
 use Rattle.store.specs.declared.Refusal.the-variants.{Unsound, OtherTable, NoDesk, BadDesks}
 use Rattle.store.specs.declared.Answer.{Answer}
-use Rattle.store.specs.declared.Answer.the-variants.{Done, Seen, Counted, Listed, Refused}
 use Rattle.store.specs.declared.Reply.{Reply}
+use Rattle.store.specs.declared.Answer.the-variants.{Done, Seen, Counted, Listed, Refused}
 use Rattle.store.specs.Answers.{Case, _gives_, decided, accepted}
 use Rattle.store.specs.Desks.{view, serve, listAfter}
 use Rattle.store.specs.Calls.{tableCases, deskCases, sheetCases, crowded, begunAnswer, begunSheet, begun, answered, changed, sheetAfter, replied, told}
-use Rattle.store.specs.Serving.{Trusted, Served, Possible}
+use Rattle.store.specs.Serving.{Trusted, Served, Possible, Responded, CarriedOut}
 use Rattle.store.proofs.Judging.{passed, Allowed, allowed, has-room}
 use Rattle.store.proofs.Trusting.{Limits, limits}
 
@@ -100,14 +100,16 @@ silent-refusal d rows list (Listed n) e = absurd (true≢false e)
 silent-refusal d rows list (Refused r) e = refl
 
 module _ (d : ℕ) (table : List ℕ) (s : Sheet) (k : ℕ) (c : Call) (old : List ℕ) where
-  -- a refusal hands back the sheet and leaves the list
-  refused : (a : Answer) → answered d table s k c (length old) ≡ a → accepted a ≡ false → Outcome d table s k c old (record { answer = a; sheet = s }) old
-  unfolding sheetAfter
-  refused a e n = (rw (e, n) refl, rw e (sym (silent-refusal d (view table (hides (s .marks) k) (own s k)) old a n)))
+  -- a refusal leaves the list
+  refused : (a : Answer) → answered d table s k c (length old) ≡ a → accepted a ≡ false → Responded d table s k c old a old
+  refused a e n = record {
+    answer-is = sym e;
+    list-is = rw e (sym (silent-refusal d (view table (hides (s .marks) k) (own s k)) old a n));
+    room = λ t. absurd (true≢false (sym t ∙ n));
+  }
 
   -- refusals 1 and 2
-  pub table-refused : accepted (decided (tableCases d table) Done) ≡ false
-      → Outcome d table s k c old (record { answer = decided (tableCases d table) Done; sheet = s }) old
+  pub table-refused : accepted (decided (tableCases d table) Done) ≡ false → Responded d table s k c old (decided (tableCases d table) Done) old
   unfolding answered
   table-refused e =
       refused (decided (tableCases d table) Done)
@@ -120,7 +122,7 @@ module _ (d : ℕ) (table : List ℕ) (s : Sheet) (k : ℕ) (c : Call) (old : Li
     on = went-on (tableCases d table) (sheetCases d table s k) (serve d table (crowded s) (length old) (hides (s .marks) k) (own s k) c) right
 
     -- refusal 3
-    pub sheet-refused : sound s ≡ false → Outcome d table s k c old (record { answer = Refused Unsound; sheet = s }) old
+    pub sheet-refused : sound s ≡ false → Responded d table s k c old (Refused Unsound) old
     unfolding sheetCases decided accepted
     sheet-refused e = refused (Refused Unsound) (on ∙ (rw e refl)) refl
 
@@ -132,28 +134,51 @@ module _ (d : ℕ) (table : List ℕ) (s : Sheet) (k : ℕ) (c : Call) (old : Li
 
       -- refusals 4 and 5
       pub desk-refused : accepted (decided (deskCases d (length table) (s .d) (s .rows) (s .desks) k) Done) ≡ false
-          → Outcome d table s k c old (record { answer = decided (deskCases d (length table) (s .d) (s .rows) (s .desks) k) Done; sheet = s }) old
+          → Responded d table s k c old (decided (deskCases d (length table) (s .d) (s .rows) (s .desks) k) Done) old
       desk-refused e =
           let cases = deskCases d (length table) (s .d) (s .rows) (s .desks) k in
           refused (decided cases Done) (on-desk ∙ stopped cases [] (serve d table (crowded s) (length old) (hides (s .marks) k) (own s k) c) e) e
 
-      module _ (known : accepted (decided (deskCases d (length table) (s .d) (s .rows) (s .desks) k) Done) ≡ true)
-          (a : Answer) (list : List ℕ) (served : Served d table s k c old a list) where
-        here : answered d table s k c (length old) ≡ a
-        unfolding decided
-        here =
-            on-desk
-            ∙ went-on (deskCases d (length table) (s .d) (s .rows) (s .desks) k) [] (serve d table (crowded s) (length old) (hides (s .marks) k) (own s k) c) known
-            ∙ sym (served .answer-is)
+      -- refusals 6 to 12, and the answers
+      call-served : accepted (decided (deskCases d (length table) (s .d) (s .rows) (s .desks) k) Done) ≡ true → (a : Answer) (list : List ℕ) → Served d table s k c old a list
+          → (accepted a ≡ true → Possible s k c) → Responded d table s k c old a list
+      unfolding decided
+      call-served known a list served can =
+          let here : answered d table s k c (length old) ≡ a
+          = on-desk
+          ∙ went-on (deskCases d (length table) (s .d) (s .rows) (s .desks) k) [] (serve d table (crowded s) (length old) (hides (s .marks) k) (own s k) c) known
+          ∙ sym (served .answer-is) in
+          record { answer-is = sym here; list-is = rw here (served .list-is); room = can }
 
-        -- refusals 6 to 12
-        pub call-refused : accepted a ≡ false → Outcome d table s k c old (record { answer = a; sheet = s }) list
-        unfolding sheetAfter
-        call-refused n = (rw (here, n) refl, rw here (served .list-is))
+  -- ---- and the sheet
 
-        pub call-accepted : accepted a ≡ true → Outcome d table s k c old (record { answer = a; sheet = changed s k c }) list
-        unfolding sheetAfter
-        call-accepted t = (rw (here, t) refl, rw here (served .list-is))
+  module _ (a : Answer) (list : List ℕ) (R : Responded d table s k c old a list) where
+    -- a refusal hands back the sheet
+    pub carried-refused : accepted a ≡ false → CarriedOut d table s k c old a s list
+    unfolding sheetAfter
+    carried-refused n = let says : accepted (answered d table s k c (length old)) ≡ false = ap accepted (sym (R .answer-is)) ∙ n in
+        record { answer-is = R .answer-is; sheet-is = rw says refl; list-is = R .list-is }
+
+    pub carried-accepted : accepted a ≡ true → (after : Sheet) → after ≡ changed s k c → CarriedOut d table s k c old a after list
+    unfolding sheetAfter
+    carried-accepted t after e = let says : accepted (answered d table s k c (length old)) ≡ true = ap accepted (sym (R .answer-is)) ∙ t in
+        record { answer-is = R .answer-is; sheet-is = rw says e; list-is = R .list-is }
+
+-- rows are taken out, and the marks are others
+pub placed-out : (s : Sheet) (k from upto left : ℕ) (marks marks′ sets′ owners′ : List ℕ) → TakenOut k from upto (s .sets) (s .owners) (s .used) left sets′ owners′ → marks ≡ marks′
+    → sheetOf (s .d) (s .rows) (s .desks) left marks sets′ owners′ ≡ marking (without s k from upto) marks′
+placed-out s k from upto left marks marks′ sets′ owners′ T m =
+    λ i. record { d = s .d; rows = s .rows; desks = s .desks; used = T .count i; marks = m i; sets = T .rows i; owners = T .desks i }
+
+-- what a change has room for lies in the places alone
+pub room-in-parts : (s : Sheet) (k : ℕ) (c : Call) → Possible s k c → Possible (sheetOf zero zero zero (s .used) (s .marks) (s .sets) (s .owners)) k c
+room-in-parts s k (Delete (Table n)) p = p
+room-in-parts s k (Delete (Own n)) p = p
+room-in-parts s k (Insert set) p = p
+room-in-parts s k Reset p = p
+room-in-parts s k (Look n) p = p
+room-in-parts s k Count p = p
+room-in-parts s k Distinct p = p
 
 -- ---- once the desk is known
 
@@ -180,8 +205,8 @@ possible d table s counts k T c places t = go c (allowed d table (crowded s) pla
     go Count a = tt
     go Distinct a = tt
 
-module _ (d : ℕ) (table : List ℕ) (s : Sheet) (counts : List ℕ) (k : ℕ) (right : accepted (decided (tableCases d table) Done) ≡ true) (whole : sound s ≡ true)
-    (known : accepted (decided (deskCases d (length table) (s .d) (s .rows) (s .desks) k) Done) ≡ true) (counted : (j : ℕ) → j < 32 → at counts j ≡ held s j) where
+module _ (d : ℕ) (table : List ℕ) (k : ℕ) {s : Sheet} {r : Bool} {counts : List ℕ} (right : accepted (decided (tableCases d table) Done) ≡ true)
+    (survey : Surveyed sound s r counts) (whole : r ≡ true) (known : accepted (decided (deskCases d (length table) (s .d) (s .rows) (s .desks) k) Done) ≡ true) where
   -- the parts of the sheet are read with the d and T of the table lent
   same-parts : (sheetOf d (length table) (s .desks) (s .used) (s .marks) (s .sets) (s .owners) ≡ s) × (k < s .desks)
   same-parts =
@@ -191,15 +216,18 @@ module _ (d : ℕ) (table : List ℕ) (s : Sheet) (counts : List ℕ) (k : ℕ) 
       let rows-same = eqb-true (s .rows) (length table) (and-right (eqb (s .d) d) (eqb (s .rows) (length table)) same) in
       (rw (sym d-same, sym rows-same) refl, leb-false (s .desks) k (passed (leb (s .desks) k) NoDesk [] Done (other .1) .0))
 
+  is-sound : sound s ≡ true
+  is-sound = sym (survey .right-is) ∙ whole
+
   trusted : Trusted d table s counts k
-  trusted = record { table-right = right; sheet-right = whole; desk-there = same-parts .1; counted = counted }
+  trusted = record { table-right = right; sheet-right = is-sound; desk-there = same-parts .1; counted = survey .counted whole }
 
   pub trusted-parts : Trusted d table (sheetOf d (length table) (s .desks) (s .used) (s .marks) (s .sets) (s .owners)) counts k
   trusted-parts = subst (λ (t : Sheet). Trusted d table t counts k) (sym (same-parts .0)) trusted
 
-  module _ (c : Call) (old : List ℕ) (a : Answer) (list : List ℕ) where
-    pub served-parts : Served d table (sheetOf d (length table) (s .desks) (s .used) (s .marks) (s .sets) (s .owners)) k c old a list → Served d table s k c old a list
-    served-parts = subst (λ (t : Sheet). Served d table t k c old a list) (same-parts .0)
-
-    pub can-change : Served d table s k c old a list → accepted a ≡ true → Possible s k c
-    can-change v t = possible d table s counts k trusted c (length old) (ap accepted (sym (v .answer-is)) ∙ t)
+  pub served-responds : {c : Call} {old : List ℕ} {a : Answer} {list : List ℕ}
+      → Served d table (sheetOf d (length table) (s .desks) (s .used) (s .marks) (s .sets) (s .owners)) k c old a list → Responded d table s k c old a list
+  served-responds {c} {old} {a} {list} parts =
+      let served = subst (λ (t : Sheet). Served d table t k c old a list) (same-parts .0) parts in
+      call-served d table s k c old right is-sound known a list served
+      (λ t. possible d table s counts k trusted c (length old) (ap accepted (sym (served .answer-is)) ∙ t))

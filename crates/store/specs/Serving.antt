@@ -14,7 +14,8 @@ use Rattle.store.specs.declared.Answer.{Answer}
 use Rattle.store.specs.declared.Answer.the-variants.{Done}
 use Rattle.store.specs.Answers.{decided, accepted}
 use Rattle.store.specs.Desks.{view, serve, listAfter}
-use Rattle.store.specs.Calls.{tableCases, crowded}
+use Rattle.sheet.specs.Surveys.{sheetOf}
+use Rattle.store.specs.Calls.{tableCases, crowded, answered, changed, sheetAfter, told}
 
 -- table, sheet and desk are right, and counts has how many rows each desk holds
 pub record Trusted (d : ℕ) (table : List ℕ) (s : Sheet) (counts : List ℕ) (k : ℕ) : Type 0 where
@@ -37,3 +38,20 @@ Possible s k Reset = (s .used ≤ 512) × (k < 32)
 Possible s k (Look n) = Unit {0}
 Possible s k Count = Unit {0}
 Possible s k Distinct = Unit {0}
+
+-- what is answered on any sheet, and that an accepted call has room
+pub record Responded (d : ℕ) (table : List ℕ) (s : Sheet) (k : ℕ) (c : Call) (old : List ℕ) (r : Answer) (list : List ℕ) : Type 0 where
+  pub answer-is : r ≡ answered d table s k c (length old)
+  pub list-is : list ≡ told d table s k c old .list
+  pub room : accepted r ≡ true → Possible s k c
+
+-- the parts of a sheet once an accepted call has changed them, whatever its d, T and number of desks
+abbrev pub Changed : ℕ → List ℕ → List ℕ → List ℕ → ℕ → Call → ℕ → List ℕ → List ℕ → List ℕ → Type 0
+Changed used marks sets owners k c used′ marks′ sets′ owners′ =
+    (d rows desks : ℕ) → sheetOf d rows desks used′ marks′ sets′ owners′ ≡ changed (sheetOf d rows desks used marks sets owners) k c
+
+-- what comes of a call: the answer, the sheet and the list
+pub record CarriedOut (d : ℕ) (table : List ℕ) (s : Sheet) (k : ℕ) (c : Call) (old : List ℕ) (r : Answer) (after : Sheet) (list : List ℕ) : Type 0 where
+  pub answer-is : r ≡ answered d table s k c (length old)
+  pub sheet-is : after ≡ sheetAfter d table s k c (length old)
+  pub list-is : list ≡ told d table s k c old .list

@@ -2,14 +2,14 @@
 ghost use mathlib.Core.Path.{_≡_};
 ghost use lib.ListN.{length};
 ghost use Rattle.store.specs.Answers.{accepted};
-ghost use Rattle.store.specs.Calls.{begun, changed, replied, told};
-ghost use Rattle.store.specs.Serving.{Possible};
+ghost use Rattle.store.specs.Calls.{begun, replied, told};
 use sheet::Sheet;
 
 pub mod refusals; // refusals.rt: the refusals by number
 mod table; // table.rt: refusals 1 and 2
 mod view; // view.rt: what a desk sees
 mod desk; // desk.rt: refusals 4 to 12, and the answers
+pub mod parts; // parts.rt: a desk's call on the parts of a sheet, where they lie
 
 // What a delete is aimed at: a table row by its number, or an own row by its place among the desk's own.
 pub enum Target {
@@ -101,25 +101,7 @@ pub fn begin(table: &[u64], d: usize, desks: usize) -> Reply
     }
 }
 
-// What an accepted call makes of the sheet.
-fn change(sheet: Sheet, desk: usize, call: Call) -> Sheet
-    requires { ⌜ Possible sheet desk call ⌝ }
-    ensures { λ r. ⌜ r ≡ changed sheet desk call ⌝ }
-{
-    match call {
-        Call::Delete(target) => match target {
-            Target::Table(n) => sheet.hiding(desk, n),
-            Target::Own(n) => sheet.without(desk, n, n + 1),
-        },
-        Call::Insert(set) => sheet.adding(desk, set),
-        Call::Reset => sheet.resetting(desk),
-        Call::Look(_) => sheet,
-        Call::Count => sheet,
-        Call::Distinct => sheet,
-    }
-}
-
-// A desk calls: the answer, and the sheet for the next call. Only an accepted change moves the sheet, and only an accepted DISTINCT writes to the list.
+// A desk calls: the answer, and the sheet for the next call.
 pub fn desk_call(
     table: &[u64],
     d: usize,
@@ -130,54 +112,35 @@ pub fn desk_call(
 ) -> Reply
     ensures { λ r. ⌜ (r ≡ replied d (now (table .entry)) sheet desk call (length (now (list .entry)))) × (now (list .exit) ≡ told d (now (table .entry)) sheet desk call (now (list .entry)) .list) ⌝ }
 {
-    let first = table::judge(table, d);
-    if !accepted(first) {
-        return Reply {
-            answer: first,
-            sheet,
-        };
-    }
-    let survey = sheet::sound::check(
+    let mut marks = sheet.marks;
+    let mut sets = sheet.sets;
+    let mut owners = sheet.owners;
+    let outcome = parts::carry_out(
+        table,
+        d,
         sheet.d,
         sheet.rows,
         sheet.desks,
         sheet.used,
-        &sheet.marks,
-        &sheet.sets,
-        &sheet.owners,
-    );
-    if !survey.right {
-        return Reply {
-            answer: Answer::Refused(Refusal::Unsound),
-            sheet,
-        };
-    }
-    let known = desk::known(d, table.len(), sheet.d, sheet.rows, sheet.desks, desk);
-    if !accepted(known) {
-        return Reply {
-            answer: known,
-            sheet,
-        };
-    }
-    let counts = survey.counts;
-    let answer = desk::serve(
-        table,
-        d,
-        sheet.desks,
-        sheet.used,
-        &sheet.marks,
-        &sheet.sets,
-        &sheet.owners,
-        &counts,
+        &mut marks,
+        &mut sets,
+        &mut owners,
         desk,
         call,
         list,
     );
-    if !accepted(answer) {
-        return Reply { answer, sheet };
-    }
+    let answer = outcome.answer;
+    let next = Sheet {
+        d: sheet.d,
+        rows: sheet.rows,
+        desks: sheet.desks,
+        used: outcome.used,
+        marks,
+        sets,
+        owners,
+    };
     Reply {
         answer,
-        sheet: change(sheet, desk, call),
+        sheet: next,
     }
 }

@@ -1,4 +1,4 @@
--- `none_over` meets its contract. The invariant: no desk before the next holds more than 64. Assumes nothing.
+-- `none_over` meets its contract. The invariant: no desk before the next holds more than it may. Assumes nothing.
 use Prim.Native.Nat.{ℕ, _-_, _≤_}
 use mathlib.Core.Path.{_≡_, refl, sym, ap, _∙_}
 use mathlib.Core.Bool.{Bool, true}
@@ -12,12 +12,13 @@ use Rattle.sets.proofs.Bools.{and-both}
 use Rattle.theory.specs.Pairings.{at}
 use Rattle.sheet.specs.Upto.{allTo}
 use Rattle.sheet.proofs.UptoLaws.{all-fails}
+use Rattle.sets.specs.Limits.{mostHeld}
 use Rattle.sheet.proofs.shares.none_over.Statement.{statement}
 use Rattle.sheet.proofs.shares.none_over.Tie as tie
 
 -- the test of one desk
 abbrev fits : List ℕ → ℕ → Bool
-fits counts k = leb (at counts k) 64
+fits counts k = leb (at counts k) mostHeld
 
 abbrev Inv-loop : tie.InvT-loop
 Inv-loop desks counts next₀ next = (next ≤ desks) × (allTo (fits counts) next ≡ true)
@@ -32,13 +33,14 @@ loop-holds c = (omega arith, refl)
 mul-if1 : tie.Need-mul-if1 Inv-loop μ-loop
 mul-if1 c = search needs
 
-element-copy-out-if1 : tie.Need-element-copy-out-if1 Inv-loop μ-loop
-element-copy-out-if1 c = search needs
+shared-slice-read-if1 : tie.Need-shared-slice-read-if1 Inv-loop μ-loop
+shared-slice-read-if1 c = search needs
 
 returns : tie.Need-returns Inv-loop μ-loop
-returns c =
+returns c = 
     let a = c .before .before .before .before .args in
-    sym (all-fails (fits (a .counts .now)) (a .desks) (c .before .before .before .loop .next) (c .before .before .loop-test .taken) (lt-leb (at (a .counts .now) (c .before .before .before .loop .next)) 64 (c .if1 .taken)))
+    let n = c .before .before .before .loop .next in
+    sym (all-fails (fits (a .counts .now)) (a .desks) n (c .before .before .loop-test .taken) (lt-leb (at (a .counts .now) n) mostHeld (c .if1 .taken)))
 
 add-next : tie.Need-add-next Inv-loop μ-loop
 add-next c = search needs
@@ -48,10 +50,11 @@ loop-less c = search needs
 
 loop-again : tie.Need-loop-again Inv-loop μ-loop
 unfolding allTo
-loop-again c =
+loop-again c = 
     let a = c .before .before .before .before .args in
     let l = c .before .before .before .loop in
-    (omega arith, simp unary-clauses (and-both (allTo (fits (a .counts .now)) (l .next)) (fits (a .counts .now) (l .next)) (l .inv .1) (le-leb (at (a .counts .now) (l .next)) 64 (c .if1 .left))))
+    let here = le-leb (at (a .counts .now) (l .next)) mostHeld (c .if1 .left) in
+    (omega arith, simp unary-clauses (and-both (allTo (fits (a .counts .now)) (l .next)) (fits (a .counts .now) (l .next)) (l .inv .1) here))
 
 returns-2 : tie.Need-returns-2 Inv-loop μ-loop
 returns-2 c = sym (ap (allTo (fits (c .before .before .args .counts .now))) (omega (arith, c .before .loop .inv .0, c .loop-test .left)) ∙ c .before .loop .inv .1)
@@ -64,7 +67,7 @@ none-over-spec =
     μ-loop
     loop-holds
     mul-if1
-    element-copy-out-if1
+    shared-slice-read-if1
     returns
     add-next
     loop-less

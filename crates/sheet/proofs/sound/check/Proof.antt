@@ -1,12 +1,15 @@
--- `check` meets its contract. Assumes nothing.
-use mathlib.Core.Path.{_≡_, sym, _∙_}
+-- `check` meets its contract: each test leaves what the next one asks for. Assumes nothing.
+use Prim.Native.Nat.{zero}
+use mathlib.Core.Path.{_≡_, sym, ap, _∙_}
 use mathlib.Core.Bool.{true}
+use lib.ListN.{length, length-replicate}
 use borrow.Author.Tests.{not-true, not-false}
+use borrow.Author.Needs.{needs}
+use Rattle.sets.specs.Limits.{mostDesks}
 use Rattle.sheet.specs.declared.Sheet.{Sheet}
 use Rattle.sheet.specs.Sheets.{shaped}
 use Rattle.sheet.specs.Surveys.{sheetOf}
 use Rattle.sheet.proofs.Checking.{shape-same, places-same, marks-same, shape-few, check-shape, check-places, check-over, check-owed, check-marks}
-use borrow.Author.Needs.{needs}
 use Rattle.sheet.proofs.sound.check.Statement.{statement}
 use Rattle.sheet.proofs.sound.check.Tie as tie
 
@@ -14,88 +17,63 @@ use Rattle.sheet.proofs.sound.check.Tie as tie
 abbrev sheetAt : tie.Start → Sheet
 sheetAt e = sheetOf (e .args .d) (e .args .rows) (e .args .desks) (e .args .used) (e .args .marks .now) (e .args .sets .now) (e .args .owners .now)
 
+-- where the first test was passed
+shape-at : (c : tie.Else1) → shaped (sheetAt (c .before .before .before)) ≡ true
+shape-at c = sym (shape-same (sheetAt (c .before .before .before))) ∙ sym (c .before .shaped .ensures) ∙ not-false (c .before .shaped .result) (c .if1 .left)
+
 shaped-requires : tie.Need-shaped-requires
 shaped-requires c κs = search needs
 
 returns : tie.Need-returns
-returns c =
-    let e = c .before .before in
-    let a = e .args in
-    check-shape (sym (shape-same (a .d) (a .rows) (a .desks) (a .used) (a .marks .now) (a .sets .now) (a .owners .now)) ∙ sym (c .before .shaped .ensures) ∙ not-true (c .before .shaped .result) (c .if1 .taken))
+returns c = 
+    let e = c .before .before .before in
+    check-shape (ap length (e .pre) ∙ length-replicate mostDesks zero)
+    (sym (shape-same (sheetAt e)) ∙ sym (c .before .shaped .ensures) ∙ not-true (c .before .shaped .result) (c .if1 .taken))
 
 go-over-requires : tie.Need-go-over-requires
-go-over-requires c κs =
-    let e = c .before .before in
-    let a = e .args in
-    let shape : shaped (sheetAt e) ≡ true = sym (shape-same (a .d) (a .rows) (a .desks) (a .used) (a .marks .now) (a .sets .now) (a .owners .now)) ∙ sym (c .before .shaped .ensures) ∙ not-false (c .before .shaped .result) (c .if1 .left) in
-    shape-few (sheetAt e) shape
+go-over-requires c κs = let few = shape-few (sheetAt (c .before .before .before .before)) (shape-at (c .before)) in (few .0, few .1, c .before .before .before .before .pre)
+
+same-length : tie.Need-same-length
+same-length c = search needs
 
 returns-2 : tie.Need-returns-2
-returns-2 c =
-    let e = c .before .before .before .before .before .before in
-    let a = e .args in
-    let shape : shaped (sheetAt e) ≡ true = sym (shape-same (a .d) (a .rows) (a .desks) (a .used) (a .marks .now) (a .sets .now) (a .owners .now)) ∙ sym (c .before .before .before .before .before .shaped .ensures) ∙ not-false (c .before .before .before .before .before .shaped .result) (c .before .before .before .before .if1 .left) in
-    let survey = c .before .before .before .go-over .result in
-    let places = places-same (a .d) (a .rows) (a .desks) (a .used) (a .marks .now) (a .sets .now) (a .owners .now) survey (c .before .before .before .go-over .ensures) in
-    check-places shape survey places (not-true (survey .right) (c .if2 .taken))
+returns-2 c = check-places (shape-at (c .before .before .before .before .before)) (places-same (c .before .before .before .go-over .ensures)) (not-true (c .before .before .before .go-over .result) (c .if2 .taken))
 
 none-over-requires : tie.Need-none-over-requires
-none-over-requires c κs =
-    let e = c .before .before .before .before .before .before .before in
-    let a = e .args in
-    let shape : shaped (sheetAt e) ≡ true = sym (shape-same (a .d) (a .rows) (a .desks) (a .used) (a .marks .now) (a .sets .now) (a .owners .now)) ∙ sym (c .before .before .before .before .before .before .shaped .ensures) ∙ not-false (c .before .before .before .before .before .before .shaped .result) (c .before .before .before .before .before .if1 .left) in
-    shape-few (sheetAt e) shape .1
+none-over-requires c κs = (shape-few (sheetAt (c .before .before .before .before .before .before .before .before .before)) (shape-at (c .before .before .before .before .before .before)) .1, c .before .before .before .before .go-over .ensures .long)
+
+same-length-2 : tie.Need-same-length-2
+same-length-2 c = search needs
 
 returns-3 : tie.Need-returns-3
-returns-3 c =
-    let e = c .before .before .before .before .before .before .before .before .before in
-    let a = e .args in
-    let shape : shaped (sheetAt e) ≡ true = sym (shape-same (a .d) (a .rows) (a .desks) (a .used) (a .marks .now) (a .sets .now) (a .owners .now)) ∙ sym (c .before .before .before .before .before .before .before .before .shaped .ensures) ∙ not-false (c .before .before .before .before .before .before .before .before .shaped .result) (c .before .before .before .before .before .before .before .if1 .left) in
-    let survey = c .before .before .before .before .before .before .go-over .result in
-    let places = places-same (a .d) (a .rows) (a .desks) (a .used) (a .marks .now) (a .sets .now) (a .owners .now) survey (c .before .before .before .before .before .before .go-over .ensures) in
-    let right : survey .right ≡ true = not-false (survey .right) (c .before .before .before .if2 .left) in
-    let few = shape-few (sheetAt e) shape .1 in
-    check-over shape survey places few right (sym (c .before .none-over .ensures) ∙ not-true (c .before .none-over .result) (c .if3 .taken))
+returns-3 c = 
+    check-over (shape-at (c .before .before .before .before .before .before .before .before)) (places-same (c .before .before .before .before .before .before .go-over .ensures)) (not-false (c .before .before .before .before .before .before .go-over .result) (c .before .before .before .if2 .left))
+    (sym (c .before .none-over .ensures) ∙ not-true (c .before .none-over .result) (c .if3 .taken))
 
 owed-requires : tie.Need-owed-requires
-owed-requires c κs =
-    let e = c .before .before .before .before .before .before .before .before .before .before in
-    let a = e .args in
-    let shape : shaped (sheetAt e) ≡ true = sym (shape-same (a .d) (a .rows) (a .desks) (a .used) (a .marks .now) (a .sets .now) (a .owners .now)) ∙ sym (c .before .before .before .before .before .before .before .before .before .shaped .ensures) ∙ not-false (c .before .before .before .before .before .before .before .before .before .shaped .result) (c .before .before .before .before .before .before .before .before .if1 .left) in
-    shape-few (sheetAt e) shape .1
+owed-requires c κs = (shape-few (sheetAt (c .before .before .before .before .before .before .before .before .before .before .before .before)) (shape-at (c .before .before .before .before .before .before .before .before .before)) .1, c .before .before .before .before .before .before .before .go-over .ensures .long)
 
 add-if4 : tie.Need-add-if4
-add-if4 c =
-    let e = c .before .before .before .before .before .before .before .before .before .before .before in
-    let a = e .args in
-    let shape : shaped (sheetAt e) ≡ true = sym (shape-same (a .d) (a .rows) (a .desks) (a .used) (a .marks .now) (a .sets .now) (a .owners .now)) ∙ sym (c .before .before .before .before .before .before .before .before .before .before .shaped .ensures) ∙ not-false (c .before .before .before .before .before .before .before .before .before .before .shaped .result) (c .before .before .before .before .before .before .before .before .before .if1 .left) in
-    search (needs, shape-few (sheetAt e) shape .0, c .owed .ensures .1)
+add-if4 c = search (needs, shape-few (sheetAt (c .before .before .before .before .before .before .before .before .before .before .before .before .before)) (shape-at (c .before .before .before .before .before .before .before .before .before .before)) .0, c .owed .ensures .1)
+
+same-length-3 : tie.Need-same-length-3
+same-length-3 c = search needs
 
 returns-4 : tie.Need-returns-4
-returns-4 c =
-    let e = c .before .before .before .before .before .before .before .before .before .before .before .before in
-    let a = e .args in
-    let shape : shaped (sheetAt e) ≡ true = sym (shape-same (a .d) (a .rows) (a .desks) (a .used) (a .marks .now) (a .sets .now) (a .owners .now)) ∙ sym (c .before .before .before .before .before .before .before .before .before .before .before .shaped .ensures) ∙ not-false (c .before .before .before .before .before .before .before .before .before .before .before .shaped .result) (c .before .before .before .before .before .before .before .before .before .before .if1 .left) in
-    let survey = c .before .before .before .before .before .before .before .before .before .go-over .result in
-    let places = places-same (a .d) (a .rows) (a .desks) (a .used) (a .marks .now) (a .sets .now) (a .owners .now) survey (c .before .before .before .before .before .before .before .before .before .go-over .ensures) in
-    let right : survey .right ≡ true = not-false (survey .right) (c .before .before .before .before .before .before .if2 .left) in
-    let few = shape-few (sheetAt e) shape .1 in
-    check-owed shape survey places few right (c .before .owed .result) (c .before .owed .ensures .0) (sym (c .before .before .before .before .none-over .ensures) ∙ not-false (c .before .before .before .before .none-over .result) (c .before .before .before .if3 .left)) (c .if4 .taken)
+returns-4 c = 
+    check-owed (shape-at (c .before .before .before .before .before .before .before .before .before .before .before)) (places-same (c .before .before .before .before .before .before .before .before .before .go-over .ensures)) (not-false (c .before .before .before .before .before .before .before .before .before .go-over .result) (c .before .before .before .before .before .before .if2 .left))
+    (sym (c .before .before .before .before .none-over .ensures) ∙ not-false (c .before .before .before .before .none-over .result) (c .before .before .before .if3 .left)) (c .before .owed .result) (c .before .owed .ensures .0) (c .if4 .taken)
 
 marks-right-requires : tie.Need-marks-right-requires
 marks-right-requires c κs = search needs
 
+same-length-4 : tie.Need-same-length-4
+same-length-4 c = search needs
+
 returns-5 : tie.Need-returns-5
-returns-5 c =
-    let e = c .before .before .before .before .before .before .before .before .before .before .before .before .before .before in
-    let a = e .args in
-    let shape : shaped (sheetAt e) ≡ true = sym (shape-same (a .d) (a .rows) (a .desks) (a .used) (a .marks .now) (a .sets .now) (a .owners .now)) ∙ sym (c .before .before .before .before .before .before .before .before .before .before .before .before .before .shaped .ensures) ∙ not-false (c .before .before .before .before .before .before .before .before .before .before .before .before .before .shaped .result) (c .before .before .before .before .before .before .before .before .before .before .before .before .if1 .left) in
-    let survey = c .before .before .before .before .before .before .before .before .before .before .before .go-over .result in
-    let places = places-same (a .d) (a .rows) (a .desks) (a .used) (a .marks .now) (a .sets .now) (a .owners .now) survey (c .before .before .before .before .before .before .before .before .before .before .before .go-over .ensures) in
-    let right : survey .right ≡ true = not-false (survey .right) (c .before .before .before .before .before .before .before .before .if2 .left) in
-    let few = shape-few (sheetAt e) shape .1 in
-    check-marks shape survey places few right (c .before .before .before .owed .result) (c .before .before .before .owed .ensures .0) (sym (c .before .before .before .before .before .before .none-over .ensures) ∙ not-false (c .before .before .before .before .before .before .none-over .result) (c .before .before .before .before .before .if3 .left)) (c .before .before .if4 .left) (c .marks-right .result)
-    (c .marks-right .ensures ∙ marks-same (a .d) (a .rows) (a .desks) (a .used) (a .marks .now) (a .sets .now) (a .owners .now))
+returns-5 c = 
+    check-marks (shape-at (c .before .before .before .before .before .before .before .before .before .before .before .before .before)) (places-same (c .before .before .before .before .before .before .before .before .before .before .before .go-over .ensures)) (not-false (c .before .before .before .before .before .before .before .before .before .before .before .go-over .result) (c .before .before .before .before .before .before .before .before .if2 .left))
+    (sym (c .before .before .before .before .before .before .none-over .ensures) ∙ not-false (c .before .before .before .before .before .before .none-over .result) (c .before .before .before .before .before .if3 .left)) (c .before .before .before .owed .result) (c .before .before .before .owed .ensures .0) (c .before .before .if4 .left) (c .marks-right .result) (c .marks-right .ensures ∙ marks-same (sheetAt (c .before .before .before .before .before .before .before .before .before .before .before .before .before .before .before .before)))
 
 pub check-spec : {M : Type 1} → statement M
 check-spec =
@@ -104,11 +82,15 @@ check-spec =
     shaped-requires
     returns
     go-over-requires
+    same-length
     returns-2
     none-over-requires
+    same-length-2
     returns-3
     owed-requires
     add-if4
+    same-length-3
     returns-4
     marks-right-requires
+    same-length-4
     returns-5)

@@ -40,19 +40,15 @@ enum-known-call-2 : tie.Need-enum-known-call-2
 enum-known-call-2 c = search needs
 
 owed-requires : tie.Need-owed-requires
-owed-requires c κs = let e = c .before .before .before .before .before .before in
-    let L = limits _ _ _ _ _ (e .pre) in
-    L .desks
+owed-requires c κs = (limits _ _ _ _ _ (c .before .before .before .before .before .before .before .pre) .desks, search needs)
 
 add-insert : tie.Need-add-insert
-add-insert c = let e = c .before .before .before .before .before .before .before in
+add-insert c = let e = c .before .before .before .before .before .before .before .before in
     let L = limits _ _ _ _ _ (e .pre) in
     record { fits = omega (arith, L .used, c .owed .ensures .1) }
 
 insert-requires : tie.Need-insert-requires
-insert-requires c κs = let e = c .before .before .before .before .before .before .before in
-    let L = limits _ _ _ _ _ (e .pre) in
-    L .values
+insert-requires c κs = limits _ _ _ _ _ (c .before .before .before .before .before .before .before .before .pre) .values
 
 enum-told : tie.Need-enum-told
 enum-told c = search needs
@@ -121,8 +117,8 @@ returns-2 c = let e = c .before .before .before .before .before .before .before 
     served-take _ _ _ _ _ (e .pre) (e .args .list .now) (e .args .call) _ (c .before .before .before .before .before .call .given .1 ∙ ap Delete (c .before .before .target2 .given .1)) _ (c .delete-own .ensures)
 
 returns-3 : tie.Need-returns-3
-returns-3 c = let e = c .before .before .before .before .before .before .before .before in
-    served-insert _ _ _ _ _ (e .pre) (e .args .list .now) (e .args .call) _ (c .before .before .before .call2 .given .1) _ (c .before .owed .ensures .0) _ (c .insert .ensures)
+returns-3 c = let e = c .before .before .before .before .before .before .before .before .before in
+    served-insert _ _ _ _ _ (e .pre) (e .args .list .now) (e .args .call) _ (c .before .before .before .before .call2 .given .1) _ (c .before .owed .ensures .0) _ (c .insert .ensures)
 
 returns-4 : tie.Need-returns-4
 returns-4 c = let e = c .before .before .before .before .before in

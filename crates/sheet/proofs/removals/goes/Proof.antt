@@ -1,8 +1,8 @@
 -- `goes` meets its contract. Assumes nothing.
 use mathlib.Core.Path.{refl}
 use borrow.Author.Tests.{eq-eqb, ne-eqb, le-leb, lt-leb}
-use Rattle.sheet.proofs.places.goes.Statement.{statement}
-use Rattle.sheet.proofs.places.goes.Tie as tie
+use Rattle.sheet.proofs.removals.goes.Statement.{statement}
+use Rattle.sheet.proofs.removals.goes.Tie as tie
 
 returns : tie.Need-returns
 returns c = let a = c .before .args in rw (ne-eqb (a .owner) (a .desk) (c .if1 .taken)) refl
