@@ -49,7 +49,7 @@ same-length-2 : tie.Need-same-length-2 Inv-loop μ-loop
 same-length-2 c = tally-kept (c .before .before .before .before .before .before .loop .inv) (c .before .before .before .before .before .before .before .before .pre .2)
 
 returns-2 : tie.Need-returns-2 Inv-loop μ-loop
-returns-2 c = 
+returns-2 c =
     let l = c .before .before .before .before .before .before .loop in
     let bad = sym (c .before .within .ensures) ∙ not-true (c .before .within .result) (c .if2 .taken) in
     let a = c .before .before .before .before .before .before .before .before .args in
@@ -62,7 +62,7 @@ slice-read-counts : tie.Need-slice-read-counts Inv-loop μ-loop
 slice-read-counts c = omega (arith, c .before .before .before .before .before .before .before .loop .inv .long, c .before .before .before .before .if1 .left, c .before .before .before .before .before .before .before .before .before .pre .1)
 
 add-counts : tie.Need-add-counts Inv-loop μ-loop
-add-counts c = 
+add-counts c =
     let l = c .before .before .before .before .before .before .before .loop in
     let o = at (c .before .before .before .before .before .before .before .before .before .args .owners .now) (l .next) in
     let h : o < c .before .before .before .before .before .before .before .before .before .args .desks = c .before .before .before .before .if1 .left in
@@ -81,7 +81,7 @@ loop-less : tie.Need-loop-less Inv-loop μ-loop
 loop-less c = search needs
 
 loop-again : tie.Need-loop-again Inv-loop μ-loop
-loop-again c = 
+loop-again c =
     let l = c .before .before .before .before .before .before .before .loop in
     let right = sym (c .before .before .within .ensures) ∙ not-false (c .before .before .within .result) (c .before .if2 .left) in
     simp unary-clauses (tally-more (l .inv) (c .before .before .before .before .before .before .loop-test .taken) (c .before .before .before .before .if1 .left) (c .before .before .before .before .before .before .before .before .before .pre .1) right)

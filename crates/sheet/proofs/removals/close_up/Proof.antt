@@ -12,14 +12,14 @@ use Rattle.sheet.proofs.removals.close_up.Statement.{statement}
 use Rattle.sheet.proofs.removals.close_up.Tie as tie
 
 abbrev Inv-loop : tie.InvT-loop
-Inv-loop desk from upto used sets₀ owners₀ seen₀ left₀ next₀ sets owners seen left next = 
+Inv-loop desk from upto used sets₀ owners₀ seen₀ left₀ next₀ sets owners seen left next =
     (next ≤ used) × Passing desk from upto sets₀ owners₀ seen left next sets owners × (length sets ≡ mostPlaces) × (length owners ≡ mostPlaces)
 
 abbrev μ-loop : tie.MeasureT-loop
 μ-loop desk from upto used sets₀ owners₀ seen₀ left₀ next₀ sets owners seen left next = used - next
 
 loop-holds : tie.Need-loop-holds Inv-loop μ-loop
-loop-holds c = 
+loop-holds c =
     let a = c .before .before .args in
     (omega arith, passing-start (a .desk) (a .from) (a .upto) (a .sets .now) (a .owners .now), c .before .before .pre .1, c .before .before .pre .2)
 
@@ -63,11 +63,10 @@ loop-less : tie.Need-loop-less Inv-loop μ-loop
 loop-less c = search needs
 
 loop-again : tie.Need-loop-again Inv-loop μ-loop
-loop-again c = 
+loop-again c =
     let l = c .before .before .before .before .before .before .loop in
     let p = c .before .before .before .before .before .before .before .before .before .pre in
-    let inside = c .before .before .before .before .before .loop-test .taken in
-    (
+    let inside = c .before .before .before .before .before .loop-test .taken in (
       omega arith,
       simp unary-clauses
           (passing-more (l .inv .1) (c .before .before .goes .result) (c .before .before .goes .ensures) (c .before .more .result) (c .before .more .ensures) (c .more2 .result) (c .more2 .ensures)
@@ -83,7 +82,7 @@ same-length-2 : tie.Need-same-length-2 Inv-loop μ-loop
 same-length-2 c = c .before .loop .inv .3 ∙ sym (c .before .before .before .before .pre .2)
 
 returns : tie.Need-returns Inv-loop μ-loop
-returns c = 
+returns c =
     let l = c .before .loop in
     let a = c .before .before .before .before .args in
     subst (λ (n : ℕ). ClosedUp (a .desk) (a .from) (a .upto) (a .sets .now) (a .owners .now) n (l .left) (l .sets) (l .owners))

@@ -37,7 +37,7 @@ shared-slice-read-if1 : tie.Need-shared-slice-read-if1 Inv-loop μ-loop
 shared-slice-read-if1 c = search needs
 
 returns : tie.Need-returns Inv-loop μ-loop
-returns c = 
+returns c =
     let a = c .before .before .before .before .args in
     let n = c .before .before .before .loop .next in
     sym (all-fails (fits (a .counts .now)) (a .desks) n (c .before .before .loop-test .taken) (lt-leb (at (a .counts .now) n) mostHeld (c .if1 .taken)))
@@ -50,7 +50,7 @@ loop-less c = search needs
 
 loop-again : tie.Need-loop-again Inv-loop μ-loop
 unfolding allTo
-loop-again c = 
+loop-again c =
     let a = c .before .before .before .before .args in
     let l = c .before .before .before .loop in
     let here = le-leb (at (a .counts .now) (l .next)) mostHeld (c .if1 .left) in

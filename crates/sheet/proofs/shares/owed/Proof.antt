@@ -40,13 +40,13 @@ loop-less c = search needs
 
 loop-again : tie.Need-loop-again Inv-loop μ-loop
 unfolding sumTo
-loop-again c = 
+loop-again c =
     let l = c .before .before .before .loop in
     let one : c .owed-to .result ≡ promised - at (c .before .before .before .before .before .args .counts .now) (l .next) = c .owed-to .ensures in
     (omega arith, simp unary-clauses (rw (l .inv .1, one) refl), omega (arith, one, l .inv .2))
 
 returns : tie.Need-returns Inv-loop μ-loop
-returns c = 
+returns c =
     let a = c .before .before .before .args in
     let l = c .before .loop in
     let all : l .next ≡ a .desks = omega (arith, l .inv .0, c .loop-test .left) in

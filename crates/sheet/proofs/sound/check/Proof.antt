@@ -25,7 +25,7 @@ shaped-requires : tie.Need-shaped-requires
 shaped-requires c κs = search needs
 
 returns : tie.Need-returns
-returns c = 
+returns c =
     let e = c .before .before .before in
     check-shape (ap length (e .pre) ∙ length-replicate mostDesks zero)
     (sym (shape-same (sheetAt e)) ∙ sym (c .before .shaped .ensures) ∙ not-true (c .before .shaped .result) (c .if1 .taken))
@@ -46,7 +46,7 @@ same-length-2 : tie.Need-same-length-2
 same-length-2 c = search needs
 
 returns-3 : tie.Need-returns-3
-returns-3 c = 
+returns-3 c =
     check-over (shape-at (c .before .before .before .before .before .before .before .before)) (places-same (c .before .before .before .before .before .before .go-over .ensures)) (not-false (c .before .before .before .before .before .before .go-over .result) (c .before .before .before .if2 .left))
     (sym (c .before .none-over .ensures) ∙ not-true (c .before .none-over .result) (c .if3 .taken))
 
@@ -60,7 +60,7 @@ same-length-3 : tie.Need-same-length-3
 same-length-3 c = search needs
 
 returns-4 : tie.Need-returns-4
-returns-4 c = 
+returns-4 c =
     check-owed (shape-at (c .before .before .before .before .before .before .before .before .before .before .before)) (places-same (c .before .before .before .before .before .before .before .before .before .go-over .ensures)) (not-false (c .before .before .before .before .before .before .before .before .before .go-over .result) (c .before .before .before .before .before .before .if2 .left))
     (sym (c .before .before .before .before .none-over .ensures) ∙ not-false (c .before .before .before .before .none-over .result) (c .before .before .before .if3 .left)) (c .before .owed .result) (c .before .owed .ensures .0) (c .if4 .taken)
 
@@ -71,7 +71,7 @@ same-length-4 : tie.Need-same-length-4
 same-length-4 c = search needs
 
 returns-5 : tie.Need-returns-5
-returns-5 c = 
+returns-5 c =
     check-marks (shape-at (c .before .before .before .before .before .before .before .before .before .before .before .before .before)) (places-same (c .before .before .before .before .before .before .before .before .before .before .before .go-over .ensures)) (not-false (c .before .before .before .before .before .before .before .before .before .before .before .go-over .result) (c .before .before .before .before .before .before .before .before .if2 .left))
     (sym (c .before .before .before .before .before .before .none-over .ensures) ∙ not-false (c .before .before .before .before .before .before .none-over .result) (c .before .before .before .before .before .if3 .left)) (c .before .before .before .owed .result) (c .before .before .before .owed .ensures .0) (c .before .before .if4 .left) (c .marks-right .result) (c .marks-right .ensures ∙ marks-same (sheetAt (c .before .before .before .before .before .before .before .before .before .before .before .before .before .before .before .before)))
 

@@ -37,7 +37,7 @@ accepted-requires : tie.Need-accepted-requires
 accepted-requires c κs = search needs
 
 returns : tie.Need-returns
-returns c = 
+returns c =
     let e = c .before .before .before .before .before in
     let wrong = ap accepted (sym (c .before .before .judge .ensures)) ∙ sym (c .before .accepted .ensures) ∙ not-true (c .before .accepted .result) (c .if1 .taken) in
     rw (c .before .before .judge .ensures) (table-refused (e .args .d) (e .args .table .now) (sheetAt e) (e .args .desk) (e .args .call) (e .args .list .now) wrong)
@@ -49,7 +49,7 @@ check-requires : tie.Need-check-requires
 check-requires c κs = search needs
 
 returns-2 : tie.Need-returns-2
-returns-2 c = 
+returns-2 c =
     let e = c .before .before .before .before .before .before .before .before .before in
     sheet-refused (e .args .d) (e .args .table .now) (sheetAt e) (e .args .desk) (e .args .call) (e .args .list .now) (right-at (c .before .before .before .before))
     (sym (c .before .before .check .ensures .right-is) ∙ not-true (c .before .before .check .result) (c .if2 .taken))
@@ -61,7 +61,7 @@ accepted-requires-2 : tie.Need-accepted-requires-2
 accepted-requires-2 c κs = search needs
 
 returns-3 : tie.Need-returns-3
-returns-3 c = 
+returns-3 c =
     let e = c .before .before .before .before .before .before .before .before .before .before .before .before in
     let unknown = ap accepted (sym (c .before .before .known .ensures)) ∙ sym (c .before .accepted2 .ensures) ∙ not-true (c .before .accepted2 .result) (c .if3 .taken) in
     rw (c .before .before .known .ensures)
