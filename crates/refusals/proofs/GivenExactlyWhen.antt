@@ -1,10 +1,10 @@
 -- Cases in the order of their numbers decide as document 01 says: a refusal is 'Given exactly when' its case applies and none of a lower number
 -- does. Shown once, for any type of answer. Assumes nothing.
 use Prim.Native.Nat.{ℕ, _<_, _≤_}
-use mathlib.Core.Path.{_≡_, refl, sym, ap, _∙_}
-use mathlib.Core.Logic.{_↔_}
-use mathlib.Core.Bool.{Bool, true, false, cond, _&&_, _||_, false≢true}
-use mathlib.Core.List.{List, [], _∷_, _++_, List·Memᴰ, List·Memᴰ·head, List·Memᴰ·tail, List·Memᴰ·not-nil}
+use mathlib.Core.Path.{_≡_, refl, sym, ap, subst, _∙_}
+use mathlib.Core.Logic.{_↔_, inl, inr}
+use mathlib.Core.Bool.{Bool, true, false, _&&_, _||_}
+use mathlib.Core.List.{List, [], _∷_, List·Memᴰ, List·Memᴰ·head, List·Memᴰ·tail, List·Memᴰ·not-nil}
 use native.Mathlib.Omega.{arith}
 use lib.Dec.{eqb}
 use borrow.Author.Tests.{eq-eqb, ne-eqb}
@@ -12,6 +12,7 @@ use Rattle.sets.proofs.Bools.{not-both}
 use Rattle.refusals.specs.declared.Refusal.{Refusal}
 use Rattle.refusals.specs.Refusals.{number}
 use Rattle.refusals.specs.Cases.{Case, decided, applies, Given, Rising}
+use Rattle.refusals.proofs.Outcomes.{NoneApplies, Gives, outcome, stands, refuses}
 
 -- ---- which numbers apply
 
@@ -23,109 +24,98 @@ low-never k (c ∷ cs) r n h =
     let other : eqb (number (c .refusal)) n ≡ false = ne-eqb (number (c .refusal)) n (λ e. omega (arith, r .0)) in
     rw (other, low-never (number (c .refusal)) cs (r .1) n (omega (arith, r .0))) refl
 
+-- a case that does not apply counts for nothing
+passed-over : (c : Case) (cs : List Case) → c .applies ≡ false → (n : ℕ) → applies (c ∷ cs) n ≡ applies cs n
+unfolding applies
+passed-over c cs e n = never (eqb (number (c .refusal)) n) (c .applies) e
+  where
+    never : (t b : Bool) → b ≡ false → ((t && b) || applies cs n) ≡ applies cs n
+    never true b e = rw e refl
+    never false b e = refl
+
+none-never : (cs : List Case) → NoneApplies cs → (n : ℕ) → applies cs n ≡ false
+unfolding applies
+none-never [] none n = refl
+none-never (c ∷ cs) none n = passed-over c cs (none .0) n ∙ none-never cs (none .1) n
+
+-- ---- which number is given
+
+gives-given : (k : ℕ) (cs : List Case) → Rising k cs → (r : Refusal) → Gives cs r → Given cs (number r)
+unfolding applies
+gives-given k [] rising r g = absurd g
+gives-given k (c ∷ cs) rising r (inl (e, same)) = subst (λ (s : Refusal). Given (c ∷ cs) (number s)) same (here, lower)
+  where
+    here : applies (c ∷ cs) (number (c .refusal)) ≡ true
+    here = rw (eq-eqb (number (c .refusal)) (number (c .refusal)) refl, e) refl
+
+    lower : (m : ℕ) → m < number (c .refusal) → applies (c ∷ cs) m ≡ false
+    lower m h =
+        let other : eqb (number (c .refusal)) m ≡ false = ne-eqb (number (c .refusal)) m (λ e. omega arith) in
+        rw (other, low-never (number (c .refusal)) cs (rising .1) m (omega arith)) refl
+gives-given k (c ∷ cs) rising r (inr (e, later)) =
+    let given = gives-given (number (c .refusal)) cs (rising .1) r later in
+    (passed-over c cs e (number r) ∙ given .0, λ m h. passed-over c cs e m ∙ given .1 m h)
+
+one-given : (cs : List Case) (m n : ℕ) → Given cs m → Given cs n → m ≡ n
+one-given cs m n f g =
+    let not-lower : (m < n) → ⊥ = λ h. not-both (f .0) (g .1 m h) in
+    let not-higher : (n < m) → ⊥ = λ h. not-both (g .0) (f .1 n h) in
+    omega arith
+
+-- ---- which case gives it
+
 above : (k : ℕ) (cs : List Case) → Rising k cs → {x : Case} → List·Memᴰ x cs → k < number (x .refusal)
 above k [] r m = absurd (List·Memᴰ·not-nil m)
 above k (c ∷ cs) r (List·Memᴰ·head e) = rw e (r .0)
 above k (c ∷ cs) r (List·Memᴰ·tail m) = omega (arith, r .0, above (number (c .refusal)) cs (r .1) m)
 
-module _ (c : Case) (cs : List Case) where
-  -- where the first case applies, its number does, and no lower one
-  here : c .applies ≡ true → applies (c ∷ cs) (number (c .refusal)) ≡ true
-  unfolding applies
-  here e = rw (eq-eqb (number (c .refusal)) (number (c .refusal)) refl, e) refl
+gives-above : (k : ℕ) (cs : List Case) → Rising k cs → (r : Refusal) → Gives cs r → k < number r
+gives-above k [] rising r g = absurd g
+gives-above k (c ∷ cs) rising r (inl (e, same)) = rw same at (rising .0)
+gives-above k (c ∷ cs) rising r (inr (e, later)) = omega (arith, rising .0, gives-above (number (c .refusal)) cs (rising .1) r later)
 
-  before-here : Rising (number (c .refusal)) cs → (n : ℕ) → n < number (c .refusal) → applies (c ∷ cs) n ≡ false
-  unfolding applies
-  before-here r n h =
-      let other : eqb (number (c .refusal)) n ≡ false = ne-eqb (number (c .refusal)) n (λ e. omega arith) in
-      rw (other, low-never (number (c .refusal)) cs r n (omega arith)) refl
+-- the case of the number given is the one that gives it
+own-case : (k : ℕ) (cs : List Case) → Rising k cs → (x : Case) → List·Memᴰ x cs → (r : Refusal) → Gives cs r → number r ≡ number (x .refusal)
+    → (x .applies ≡ true) × (x .refusal ≡ r)
+own-case k [] rising x m r g e = absurd g
+own-case k (c ∷ cs) rising x (List·Memᴰ·head here) r (inl (t, same)) e = rw here (t, same)
+own-case k (c ∷ cs) rising x (List·Memᴰ·tail m) r (inl (t, same)) e =
+    absurd (omega (arith, above (number (c .refusal)) cs (rising .1) m, ap number same))
+own-case k (c ∷ cs) rising x (List·Memᴰ·head here) r (inr (f, later)) e =
+    absurd (omega (arith, gives-above (number (c .refusal)) cs (rising .1) r later, ap (λ (y : Case). number (y .refusal)) here))
+own-case k (c ∷ cs) rising x (List·Memᴰ·tail m) r (inr (f, later)) e = own-case (number (c .refusal)) cs (rising .1) x m r later e
 
-  -- where it does not, the later cases decide
-  passed-over : c .applies ≡ false → (n : ℕ) → applies (c ∷ cs) n ≡ applies cs n
-  unfolding applies
-  passed-over e n = never (eqb (number (c .refusal)) n) (c .applies) e
-    where
-      never : (t b : Bool) → b ≡ false → ((t && b) || applies cs n) ≡ applies cs n
-      never true b e = rw e refl
-      never false b e = refl
+-- ---- of any answer
 
--- ---- which refusal is given
+module _ {A : Type 0} (refused : Refusal → A) (numberOf : A → ℕ) (tells : (r : Refusal) → numberOf (refused r) ≡ number r) (a : A)
+    (accepts : numberOf a ≡ 0) (k : ℕ) (cs : List Case) (rising : Rising k cs) where
+  told : (r : Refusal) → Gives cs r → numberOf (decided refused cs a) ≡ number r
+  told r g = ap numberOf (refuses refused cs r g a) ∙ tells r
 
--- no case applies
-abbrev pub NoneApplies : List Case → Type 0
-NoneApplies [] = Unit {0}
-NoneApplies (c ∷ cs) = (c .applies ≡ false) × NoneApplies cs
+  untold : NoneApplies cs → numberOf (decided refused cs a) ≡ 0
+  untold none = ap numberOf (stands refused cs none a) ∙ accepts
 
-module _ {A : Type 0} (refused : Refusal → A) where
-  -- cases behind cases are one list
-  pub chained : (cs ds : List Case) (a : A) → decided refused cs (decided refused ds a) ≡ decided refused (cs ++ ds) a
-  unfolding decided
-  chained [] ds a = refl
-  chained (c ∷ cs) ds a = ap (λ (r : A). cond (c .applies) (refused (c .refusal)) r) (chained cs ds a)
+  -- a refusal is given exactly when its case applies and none of a lower number does
+  pub given-exactly-when : (n : ℕ) → 0 < n → (numberOf (decided refused cs a) ≡ n) ↔ Given cs n
+  given-exactly-when n h = elim (outcome cs) [
+    | inl none ↦ (λ e. absurd (omega (arith, untold none)), λ g. absurd (not-both (g .0) (none-never cs none n)))
+    | inr (r, g) ↦
+        (let given = gives-given k cs rising r g in
+        (λ e. rw (sym (told r g) ∙ e) at given, λ f. told r g ∙ one-given cs (number r) n given f))
+  ]
 
-  module _ (c : Case) (cs : List Case) (a : A) where
-    taken : c .applies ≡ true → decided refused (c ∷ cs) a ≡ refused (c .refusal)
-    unfolding decided
-    taken e = rw e refl
+  -- and then it is that case's own refusal, with its row
+  pub own-refusal : (x : Case) → List·Memᴰ x cs → numberOf (decided refused cs a) ≡ number (x .refusal)
+      → (x .applies ≡ true) × (decided refused cs a ≡ refused (x .refusal))
+  own-refusal x m e = elim (outcome cs) [
+    | inl none ↦ absurd (omega (arith, untold none, above k cs rising m))
+    | inr (r, g) ↦
+        (let own = own-case k cs rising x m r g (sym (told r g) ∙ e) in (own .0, refuses refused cs r g a ∙ ap refused (sym (own .1))))
+  ]
 
-    skipped : c .applies ≡ false → decided refused (c ∷ cs) a ≡ decided refused cs a
-    unfolding decided
-    skipped e = rw e refl
-
-  module _ (numberOf : A → ℕ) (tells : (r : Refusal) → numberOf (refused r) ≡ number r) (a : A) (accepts : numberOf a ≡ 0) where
-    abbrev Exactly : List Case → Type 0
-    Exactly cs = (n : ℕ) → 0 < n → (numberOf (decided refused cs a) ≡ n) ↔ Given cs n
-
-    with-first : (c : Case) (cs : List Case) → Rising (number (c .refusal)) cs → (b : Bool) → c .applies ≡ b → Exactly cs → Exactly (c ∷ cs)
-    with-first c cs r true t later n h =
-        let told : numberOf (decided refused (c ∷ cs) a) ≡ number (c .refusal) = ap numberOf (taken c cs a t) ∙ tells (c .refusal) in (
-          λ e. let same : number (c .refusal) ≡ n = sym told ∙ e in (rw same at (here c cs t), rw same at (before-here c cs r)),
-          λ g. let not-lower : (n < number (c .refusal)) → ⊥ = λ l. not-both (g .0) (before-here c cs r n l) in
-              let not-higher : (number (c .refusal) < n) → ⊥ = λ l. not-both (here c cs t) (g .1 (number (c .refusal)) l) in
-              omega (arith, told),
-        )
-    with-first c cs r false f later n h =
-        let same : numberOf (decided refused (c ∷ cs) a) ≡ numberOf (decided refused cs a) = ap numberOf (skipped c cs a f) in (
-          λ e. let g = later n h .0 (sym same ∙ e) in (passed-over c cs f n ∙ g .0, λ m l. passed-over c cs f m ∙ g .1 m l),
-          λ g. same ∙ later n h .1 (sym (passed-over c cs f n) ∙ g .0, λ m l. sym (passed-over c cs f m) ∙ g .1 m l),
-        )
-
-    -- a refusal is given exactly when its case applies and none of a lower number does
-    pub given-exactly-when : (k : ℕ) (cs : List Case) → Rising k cs → (n : ℕ) → 0 < n → (numberOf (decided refused cs a) ≡ n) ↔ Given cs n
-    unfolding decided applies
-    given-exactly-when k [] r n h = (λ e. absurd (omega arith), λ g. absurd (false≢true (g .0)))
-    given-exactly-when k (c ∷ cs) r n h = with-first c cs (r .1) (c .applies) refl (given-exactly-when (number (c .refusal)) cs (r .1)) n h
-
-    -- and then it is that case's own refusal, with its row
-    abbrev pub Own : List Case → Case → Type 0
-    Own cs x = (x .applies ≡ true) × (decided refused cs a ≡ refused (x .refusal))
-
-    pub own-refusal : (k : ℕ) (cs : List Case) → Rising k cs → (x : Case) → List·Memᴰ x cs → numberOf (decided refused cs a) ≡ number (x .refusal)
-        → Own cs x
-    own-refusal k [] r x m e = absurd (List·Memᴰ·not-nil m)
-    own-refusal k (c ∷ cs) r x m e = go (c .applies) refl m (own-refusal (number (c .refusal)) cs (r .1) x)
-      where
-        go : (b : Bool) → c .applies ≡ b → List·Memᴰ x (c ∷ cs)
-            → (List·Memᴰ x cs → numberOf (decided refused cs a) ≡ number (x .refusal) → Own cs x) → Own (c ∷ cs) x
-        go true t (List·Memᴰ·head same) later = rw same (t, taken c cs a t)
-        go true t (List·Memᴰ·tail m) later =
-            absurd (omega (arith, above (number (c .refusal)) cs (r .1) m, tells (c .refusal), ap numberOf (taken c cs a t)))
-        go false f (List·Memᴰ·head same) later =
-            let still : numberOf (decided refused cs a) ≡ number (c .refusal) =
-            ap numberOf (sym (skipped c cs a f)) ∙ e ∙ ap (λ (y : Case). number (y .refusal)) same in
-            absurd (not-both
-            (given-exactly-when (number (c .refusal)) cs (r .1) (number (c .refusal)) (omega (arith, r .0)) .0 still .0)
-            (low-never (number (c .refusal)) cs (r .1) (number (c .refusal)) (omega arith)))
-        go false f (List·Memᴰ·tail m) later =
-            let found = later m (ap numberOf (sym (skipped c cs a f)) ∙ e) in (found .0, skipped c cs a f ∙ found .1)
-
-    -- number 0 is given where no case applies, and then the answer stands
-    pub none-given : (k : ℕ) (cs : List Case) → Rising k cs → numberOf (decided refused cs a) ≡ 0 → NoneApplies cs × (decided refused cs a ≡ a)
-    unfolding decided
-    none-given k [] r e = (tt, refl)
-    none-given k (c ∷ cs) r e = go (c .applies) refl (none-given (number (c .refusal)) cs (r .1))
-      where
-        go : (b : Bool) → c .applies ≡ b → (numberOf (decided refused cs a) ≡ 0 → NoneApplies cs × (decided refused cs a ≡ a))
-            → NoneApplies (c ∷ cs) × (decided refused (c ∷ cs) a ≡ a)
-        go true t later = absurd (omega (arith, r .0, tells (c .refusal), ap numberOf (taken c cs a t)))
-        go false f later = let rest = later (ap numberOf (sym (skipped c cs a f)) ∙ e) in ((f, rest .0), skipped c cs a f ∙ rest .1)
+  -- number 0 is given where no case applies, and then the answer stands
+  pub none-given : numberOf (decided refused cs a) ≡ 0 → NoneApplies cs × (decided refused cs a ≡ a)
+  none-given e = elim (outcome cs) [
+    | inl none ↦ (none, stands refused cs none a)
+    | inr (r, g) ↦ absurd (omega (arith, told r g, gives-above k cs rising r g))
+  ]

@@ -1,9 +1,9 @@
 -- The row that is returned with a refusal: with 2 the lowest bad row of the table, with 26 a row too, and 0 with any other. Assumes nothing.
 use Prim.Native.Nat.{ℕ, zero}
-use mathlib.Core.Path.{_≡_, refl, sym, ap, _∙_}
-use mathlib.Core.Logic.{_≢_, _⊎_, inl, inr}
-use mathlib.Core.Bool.{Bool, true, false, cond, false≢true}
-use mathlib.Core.List.{List, [], _∷_, _++_, List·Memᴰ·head, List·Memᴰ·tail}
+use mathlib.Core.Path.{_≡_, refl, ap, _∙_}
+use mathlib.Core.Logic.{_≢_, inl, inr}
+use mathlib.Core.Bool.{true, false≢true}
+use mathlib.Core.List.{List, _++_, List·Memᴰ·head, List·Memᴰ·tail}
 use native.Mathlib.Omega.{arith}
 use Rattle.sets.specs.declared.Found.{Found}
 use Rattle.sets.specs.declared.Found.the-variants.{At, Nothing}
@@ -16,6 +16,7 @@ use Rattle.refusals.specs.declared.Refusal.the-variants.{ManyRows, CutSh
 use Rattle.refusals.specs.Refusals.{number, row}
 use Rattle.refusals.specs.Cases.{Case, found, place, decided, Rising}
 use Rattle.refusals.specs.TableCases.{badCase, tableCases}
+use Rattle.refusals.proofs.Outcomes.{outcome, stands, refuses}
 use Rattle.refusals.proofs.GivenExactlyWhen.{own-refusal}
 
 -- ---- '0 except where stated'
@@ -55,23 +56,14 @@ unfolding tableCases
 table-rising most d table cs r = (omega arith, (omega arith, r))
 
 module _ {A : Type 0} (refused : Refusal → A) (numberOf : A → ℕ) (tells : (r : Refusal) → numberOf (refused r) ≡ number r) (a : A) where
-  answer-or-refusal : (cs : List Case) → (decided refused cs a ≡ a) ⊎ ((r : Refusal) × (decided refused cs a ≡ refused r))
-  unfolding decided
-  answer-or-refusal [] = inl refl
-  answer-or-refusal (c ∷ cs) = go (c .applies) (answer-or-refusal cs)
-    where
-      go : (b : Bool) {x : A} → (x ≡ a) ⊎ ((r : Refusal) × (x ≡ refused r))
-          → (cond b (refused (c .refusal)) x ≡ a) ⊎ ((r : Refusal) × (cond b (refused (c .refusal)) x ≡ refused r))
-      go true later = inr (c .refusal, refl)
-      go false later = later
-
   pub no-row : (rowOf : A → ℕ) → ((r : Refusal) → rowOf (refused r) ≡ row r) → rowOf a ≡ zero → (cs : List Case)
       → numberOf (decided refused cs a) ≢ 2 → numberOf (decided refused cs a) ≢ 26 → rowOf (decided refused cs a) ≡ zero
-  no-row rowOf names none cs not-2 not-26 = elim (answer-or-refusal cs) [
-    | inl e ↦ ap rowOf e ∙ none
-    | inr (r, e) ↦
-        (let number-is : numberOf (decided refused cs a) ≡ number r = ap numberOf e ∙ tells r in
-        ap rowOf e ∙ names r ∙ row-stated r (λ z. not-2 (number-is ∙ z)) (λ z. not-26 (number-is ∙ z)))
+  no-row rowOf names none cs not-2 not-26 = elim (outcome cs) [
+    | inl none-applies ↦ ap rowOf (stands refused cs none-applies a) ∙ none
+    | inr (r, g) ↦
+        (let given = refuses refused cs r g a in
+        let number-is : numberOf (decided refused cs a) ≡ number r = ap numberOf given ∙ tells r in
+        ap rowOf given ∙ names r ∙ row-stated r (λ z. not-2 (number-is ∙ z)) (λ z. not-26 (number-is ∙ z)))
   ]
 
   -- 'returns the lowest such row'
