@@ -2,6 +2,7 @@
 use Prim.Native.Nat.{ℕ, zero}
 use mathlib.Core.Path.{_≡_, refl}
 use mathlib.Core.List.{List, [], _∷_, map}
+use native.Mathlib.Omega.{arith}
 use Rattle.refusals.specs.declared.Refusal.{Refusal}
 use Rattle.refusals.specs.declared.Refusal.the-variants.{TooLarge, BadRow, Unsound, OtherTable, NoDesk, NoRow, HiddenAlready, BadSet, Full}
 use Rattle.refusals.specs.declared.Refusal.the-variants.{NoRoom, ShortList, LongView, BadDesks, ShortFile, WrongMark, WrongVersion, BadValues}
@@ -24,3 +25,28 @@ pub rows-printed : (i j : ℕ)
     → map row (every i j) ≡ 0 ∷ i ∷ 0 ∷ 0 ∷ 0 ∷ 0 ∷ 0 ∷ 0 ∷ 0 ∷ 0 ∷ 0 ∷ 0 ∷ 0 ∷ 0 ∷ 0 ∷ 0 ∷ 0 ∷ 0 ∷ 0 ∷ j ∷ 0 ∷ 0 ∷ []
 unfolding every
 rows-printed i j = refl
+
+-- no other refusal has the number 10
+pub ten-no-room : (r : Refusal) → number r ≡ 10 → r ≡ NoRoom
+ten-no-room TooLarge e = absurd (omega arith)
+ten-no-room (BadRow i) e = absurd (omega arith)
+ten-no-room Unsound e = absurd (omega arith)
+ten-no-room OtherTable e = absurd (omega arith)
+ten-no-room NoDesk e = absurd (omega arith)
+ten-no-room NoRow e = absurd (omega arith)
+ten-no-room HiddenAlready e = absurd (omega arith)
+ten-no-room BadSet e = absurd (omega arith)
+ten-no-room Full e = absurd (omega arith)
+ten-no-room NoRoom e = refl
+ten-no-room ShortList e = absurd (omega arith)
+ten-no-room LongView e = absurd (omega arith)
+ten-no-room BadDesks e = absurd (omega arith)
+ten-no-room ShortFile e = absurd (omega arith)
+ten-no-room WrongMark e = absurd (omega arith)
+ten-no-room WrongVersion e = absurd (omega arith)
+ten-no-room BadValues e = absurd (omega arith)
+ten-no-room ManyRows e = absurd (omega arith)
+ten-no-room CutShort e = absurd (omega arith)
+ten-no-room (RowOver i) e = absurd (omega arith)
+ten-no-room AllUnknown e = absurd (omega arith)
+ten-no-room FewPlaces e = absurd (omega arith)

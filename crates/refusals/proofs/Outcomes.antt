@@ -43,6 +43,13 @@ module _ {A : Type 0} (refused : Refusal → A) where
   refuses (c ∷ cs) r (inl (e, same)) a = rw (e, same) refl
   refuses (c ∷ cs) r (inr (e, later)) a = rw e (refuses cs r later a)
 
+  -- the same with more cases behind them
+  pub stands-first : (cs ds : List Case) → NoneApplies cs → (a : A) → decided refused (cs ++ ds) a ≡ decided refused ds a
+  stands-first cs ds none a = sym (chained cs ds a) ∙ stands cs none (decided refused ds a)
+
+  pub refuses-first : (cs ds : List Case) (r : Refusal) → Gives cs r → (a : A) → decided refused (cs ++ ds) a ≡ refused r
+  refuses-first cs ds r g a = sym (chained cs ds a) ∙ refuses cs r g (decided refused ds a)
+
   -- the other way, where no refusal is the answer, nor another refusal
   module _ (a : A) (apart : (r : Refusal) → refused r ≢ a) where
     pub stood : (cs : List Case) → decided refused cs a ≡ a → NoneApplies cs

@@ -13,9 +13,11 @@ use Rattle.sheet.specs.declared.Sheet.{Sheet}
 use Rattle.sheet.specs.Sheets.{own, owed, hides}
 use Rattle.sheet.proofs.SoundParts.{Sound, sound-parts}
 use Rattle.store.specs.declared.Call.{Call}
-use Rattle.store.specs.declared.Refusal.the-variants.{NoDesk}
+use Rattle.refusals.specs.declared.Refusal.the-variants.{NoDesk}
 use Rattle.store.specs.declared.Answer.{Answer}
-use Rattle.store.specs.Answers.{_gives_, decided, accepted, numberOf}
+use Rattle.store.specs.declared.Answer.the-variants.{Refused}
+use Rattle.refusals.specs.Cases.{_gives_, decided}
+use Rattle.store.specs.Answers.{accepted, numberOf}
 use Rattle.store.specs.Desks.{view, serve, listAfter, telling}
 use Rattle.store.specs.Calls.{begunAnswer, crowded}
 use Rattle.store.specs.Promise.{Turn, Store, hiddenIn, ownIn, member, alone, history, heldBy, usedBy, owedBy, properCall, proper, Demand3, sheetOn, classStore}
@@ -56,7 +58,7 @@ module _ {d : ℕ} {table : List ℕ} {desks : ℕ} (good : Good d table desks) 
     abbrev served : Answer
     served = serve d table (crowded s) (length (t .list)) (hides (s .marks) (t .desk)) (own s (t .desk)) (t .call)
 
-    told-here : tell past t .answer ≡ decided ((leb desks (t .desk) gives NoDesk) ∷ []) served
+    told-here : tell past t .answer ≡ decided Refused ((leb desks (t .desk) gives NoDesk) ∷ []) served
     unfolding classStore
     told-here = answered-here good (reached good past) (t .desk) (t .call) (length (t .list))
 

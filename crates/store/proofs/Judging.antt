@@ -20,37 +20,40 @@ use Rattle.sheet.proofs.SoundParts.{sound-parts}
 use Rattle.store.specs.declared.Target.the-variants.{Table, Own}
 use Rattle.store.specs.declared.Call.{Call}
 use Rattle.store.specs.declared.Call.the-variants.{Delete, Insert, Reset, Look, Count, Distinct}
-use Rattle.store.specs.declared.Refusal.{Refusal}
-use Rattle.store.specs.declared.Refusal.the-variants.{TooLarge, NoRow, HiddenAlready, BadSet, Full, NoRoom, BadDesks}
+use Rattle.refusals.specs.declared.Refusal.{Refusal}
+use Rattle.refusals.specs.declared.Refusal.the-variants.{TooLarge, NoRow, HiddenAlready, BadSet, Full, NoRoom, BadDesks}
 use Rattle.store.specs.declared.Answer.{Answer}
 use Rattle.store.specs.declared.Answer.the-variants.{Done, Refused}
-use Rattle.store.specs.Answers.{Case, _gives_, decided, accepted, number, numberOf}
+use Rattle.refusals.specs.Refusals.{number}
+use Rattle.refusals.specs.Cases.{Case, _gives_, decided}
+use Rattle.store.specs.Answers.{accepted, numberOf}
 use Rattle.store.specs.Desks.{serve}
-use Rattle.store.specs.Calls.{badCase, tableCases, begunAnswer, crowded}
+use Rattle.refusals.specs.TableCases.{badCase, tableCases}
+use Rattle.store.specs.Calls.{begunAnswer, crowded}
 
 -- where the answer accepts, the first case does not apply
-pub passed : (b : Bool) (r : Refusal) (cs : List Case) (a : Answer) → accepted (decided ((b gives r) ∷ cs) a) ≡ true → (b ≡ false) × (accepted (decided cs a) ≡ true)
+pub passed : (b : Bool) (r : Refusal) (cs : List Case) (a : Answer) → accepted (decided Refused ((b gives r) ∷ cs) a) ≡ true → (b ≡ false) × (accepted (decided Refused cs a) ≡ true)
 unfolding decided accepted
 passed true r cs a t = absurd (false≢true t)
 passed false r cs a t = (refl, t)
 
 -- one case, and whether it applies
-pub given : (b : Bool) (r : Refusal) (a : Answer) → b ≡ true → decided ((b gives r) ∷ []) a ≡ Refused r
+pub given : (b : Bool) (r : Refusal) (a : Answer) → b ≡ true → decided Refused ((b gives r) ∷ []) a ≡ Refused r
 unfolding decided
 given b r a e = rw e
 
-pub not-given : (b : Bool) (r : Refusal) (a : Answer) → b ≡ false → decided ((b gives r) ∷ []) a ≡ a
+pub not-given : (b : Bool) (r : Refusal) (a : Answer) → b ≡ false → decided Refused ((b gives r) ∷ []) a ≡ a
 unfolding decided
 not-given b r a e = rw e
 
 -- where the answer's number is x: a first case of another number does not apply, and the one case does where the answer behind it has another number
-pub skipped : (x : ℕ) (b : Bool) (r : Refusal) (cs : List Case) (a : Answer) → number r ≢ x → numberOf (decided ((b gives r) ∷ cs) a) ≡ x
-    → (b ≡ false) × (numberOf (decided cs a) ≡ x)
+pub skipped : (x : ℕ) (b : Bool) (r : Refusal) (cs : List Case) (a : Answer) → number r ≢ x → numberOf (decided Refused ((b gives r) ∷ cs) a) ≡ x
+    → (b ≡ false) × (numberOf (decided Refused cs a) ≡ x)
 unfolding decided
 skipped x true r cs a ne e = absurd (ne e)
 skipped x false r cs a ne e = (refl, e)
 
-pub applied : (x : ℕ) (b : Bool) (r : Refusal) (a : Answer) → numberOf a ≢ x → numberOf (decided ((b gives r) ∷ []) a) ≡ x → b ≡ true
+pub applied : (x : ℕ) (b : Bool) (r : Refusal) (a : Answer) → numberOf a ≢ x → numberOf (decided Refused ((b gives r) ∷ []) a) ≡ x → b ≡ true
 unfolding decided
 applied x true r a ne e = refl
 applied x false r a ne e = absurd (ne e)
@@ -70,7 +73,6 @@ pub record Good (d : ℕ) (table : List ℕ) (desks : ℕ) : Type 0 where
   pub few-desks : desks ≤ 32
 
 pub none-bad : (f : Found) → badCase f .applies ≡ false → f ≡ Nothing
-unfolding badCase
 none-bad Nothing e = refl
 none-bad (At i) e = absurd (false≢true (sym e))
 
@@ -94,7 +96,7 @@ good-parts d table desks t =
     }
 
 pub parts-good : {d : ℕ} {table : List ℕ} {desks : ℕ} → Good d table desks → accepted (begunAnswer d table desks) ≡ true
-unfolding begunAnswer tableCases badCase decided accepted
+unfolding begunAnswer tableCases decided accepted
 parts-good {d} {table} {desks} g =
     rw (
       ne-eqb d zero (λ e. absurd (omega (arith, g .some-value))),

@@ -14,12 +14,16 @@ use Rattle.sheet.specs.Sheets.{own, hides}
 use Rattle.store.specs.declared.Target.the-variants.{Table, Own}
 use Rattle.store.specs.declared.Call.{Call}
 use Rattle.store.specs.declared.Call.the-variants.{Delete, Insert, Reset, Look, Count, Distinct}
-use Rattle.store.specs.declared.Refusal.the-variants.{BadDesks}
+use Rattle.refusals.specs.declared.Refusal.the-variants.{BadDesks}
 use Rattle.store.specs.declared.Answer.{Answer}
 use Rattle.store.specs.declared.Answer.the-variants.{Done, Refused}
-use Rattle.store.specs.Answers.{Case, _gives_, decided, number, numberOf}
+use Rattle.refusals.specs.Refusals.{number}
+use Rattle.refusals.specs.Cases.{Case, _gives_, decided}
+use Rattle.store.specs.Answers.{numberOf}
 use Rattle.store.specs.Desks.{callCases, granted, serve}
-use Rattle.store.specs.Calls.{badCase, tableCases, sheetCases, crowded, begunAnswer, answered}
+use Rattle.sets.specs.Limits.{mostRows}
+use Rattle.refusals.specs.TableCases.{badCase, tableCases}
+use Rattle.store.specs.Calls.{sheetCases, crowded, begunAnswer, answered}
 
 -- the case is one of these
 abbrev pub OneOf : Case → List Case → Type 0
@@ -40,44 +44,43 @@ above n (x ∷ cs) r c (inr o) = omega (arith, r .0, above (number (x .refusal))
 
 -- the refusal that is given is no higher than any case that applies
 first-lowest : (n : ℕ) (cs : List Case) → Rising n cs → (a : Answer) (c : Case) → OneOf c cs → c .applies ≡ true
-    → (0 < numberOf (decided cs a)) × (numberOf (decided cs a) ≤ number (c .refusal))
+    → (0 < numberOf (decided Refused cs a)) × (numberOf (decided Refused cs a) ≤ number (c .refusal))
 unfolding decided
 first-lowest n [] r a c o t = absurd o
 first-lowest n (x ∷ cs) r a c o t = go (x .applies) refl o (first-lowest (number (x .refusal)) cs (r .1) a c)
   where
     go : (b : Bool) → x .applies ≡ b → (c ≡ x) ⊎ OneOf c cs
-        → (OneOf c cs → c .applies ≡ true → (0 < numberOf (decided cs a)) × (numberOf (decided cs a) ≤ number (c .refusal)))
-        → (0 < numberOf (cond b (Refused (x .refusal)) (decided cs a))) × (numberOf (cond b (Refused (x .refusal)) (decided cs a)) ≤ number (c .refusal))
+        → (OneOf c cs → c .applies ≡ true → (0 < numberOf (decided Refused cs a)) × (numberOf (decided Refused cs a) ≤ number (c .refusal)))
+        → (0 < numberOf (cond b (Refused (x .refusal)) (decided Refused cs a))) × (numberOf (cond b (Refused (x .refusal)) (decided Refused cs a)) ≤ number (c .refusal))
     go true e (inl same) ih = (omega (arith, r .0), rw same (omega arith))
     go true e (inr later) ih = (omega (arith, r .0), omega (arith, above (number (x .refusal)) cs (r .1) c later))
     go false e (inl same) ih = absurd (false≢true (sym e ∙ ap (λ (y : Case). y .applies) (sym same) ∙ t))
     go false e (inr later) ih = ih later t
 
 -- two lists of cases, one after the other
-chained : (cs ds : List Case) (a : Answer) → decided cs (decided ds a) ≡ decided (cs ++ ds) a
+chained : (cs ds : List Case) (a : Answer) → decided Refused cs (decided Refused ds a) ≡ decided Refused (cs ++ ds) a
 unfolding decided
 chained [] ds a = refl
 chained (c ∷ cs) ds a = ap (λ (r : Answer). cond (c .applies) (Refused (c .refusal)) r) (chained cs ds a)
 
-joined : (cs ds es : List Case) (a : Answer) → decided (cs ++ ds) (decided es a) ≡ decided (cs ++ (ds ++ es)) a
-joined cs ds es a = chained (cs ++ ds) es a ∙ ap (λ (l : List Case). decided l a) (append-assoc cs ds es)
+joined : (cs ds es : List Case) (a : Answer) → decided Refused (cs ++ ds) (decided Refused es a) ≡ decided Refused (cs ++ (ds ++ es)) a
+joined cs ds es a = chained (cs ++ ds) es a ∙ ap (λ (l : List Case). decided Refused l a) (append-assoc cs ds es)
 
 -- ---- the cases of a desk's call, and of begin
 
 abbrev pub allCases : ℕ → List ℕ → Sheet → ℕ → Call → ℕ → List Case
-allCases d table s k c places = tableCases d table ++ (sheetCases d table s k ++ callCases d table (crowded s) places (hides (s .marks) k) (own s k) c)
+allCases d table s k c places = tableCases mostRows d table ++ (sheetCases d table s k ++ callCases d table (crowded s) places (hides (s .marks) k) (own s k) c)
 
 abbrev pub beginCases : ℕ → List ℕ → ℕ → List Case
-beginCases d table desks = tableCases d table ++ (((eqb desks zero || ltb 32 desks) gives BadDesks) ∷ [])
+beginCases d table desks = tableCases mostRows d table ++ (((eqb desks zero || ltb 32 desks) gives BadDesks) ∷ [])
 
 -- refusal 2 has its number, whichever row is bad
 two : (f : Found) → number (badCase f .refusal) ≡ 2
-unfolding badCase
 two Nothing = refl
 two (At i) = refl
 
 module _ (d : ℕ) (table : List ℕ) where
-  from-table : (cs : List Case) → Rising 2 cs → Rising 0 (tableCases d table ++ cs)
+  from-table : (cs : List Case) → Rising 2 cs → Rising 0 (tableCases mostRows d table ++ cs)
   unfolding tableCases
   from-table cs r = (omega arith, (omega (arith, two (badRow d table)), rw (two (badRow d table)) r))
 
@@ -100,7 +103,7 @@ module _ (d : ℕ) (table : List ℕ) where
   unfolding answered serve
   call-lowest s k c places x o t =
       let hid = hides (s .marks) k in
-      rw (joined (tableCases d table) (sheetCases d table s k) (callCases d table (crowded s) places hid (own s k) c) (granted d table (crowded s) places hid (own s k) c))
+      rw (joined (tableCases mostRows d table) (sheetCases d table s k) (callCases d table (crowded s) places hid (own s k) c) (granted d table (crowded s) places hid (own s k) c))
       (first-lowest 0 (allCases d table s k c places)
       (from-table _ (from-sheet s k _ (from-call (crowded s) places hid (own s k) c)))
       (granted d table (crowded s) places hid (own s k) c) x o t)

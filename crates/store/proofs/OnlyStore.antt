@@ -9,7 +9,7 @@ use lib.Dec.{eqb}
 use lib.ListN.{length}
 use Rattle.sheet.proofs.UptoLaws.{sum-ext}
 use Rattle.store.specs.declared.Call.{Call}
-use Rattle.store.specs.declared.Refusal.the-variants.{NoRoom}
+use Rattle.refusals.specs.declared.Refusal.the-variants.{NoRoom}
 use Rattle.store.specs.declared.Answer.the-variants.{Refused}
 use Rattle.store.specs.Answers.{accepted, numberOf}
 use Rattle.store.specs.Desks.{Told}

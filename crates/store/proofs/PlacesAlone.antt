@@ -13,7 +13,8 @@ use Rattle.sheet.specs.Upto.{sumTo}
 use Rattle.sheet.proofs.UptoLaws.{top-or-below, sum-part}
 use Rattle.store.specs.declared.Call.{Call}
 use Rattle.store.specs.declared.Call.the-variants.{Insert}
-use Rattle.store.specs.Answers.{decided, accepted, numberOf}
+use Rattle.refusals.specs.Cases.{decided}
+use Rattle.store.specs.Answers.{accepted, numberOf}
 use Rattle.store.specs.Desks.{serve, Told}
 use Rattle.store.specs.Calls.{begunAnswer}
 use Rattle.store.specs.Promise.{Turn, Store, ownIn, alone, history, heldBy, usedBy, Demand3}

@@ -19,13 +19,16 @@ use Rattle.sheet.proofs.OwnAfter.{length-own}
 use Rattle.store.specs.declared.Target.the-variants.{Table, Own}
 use Rattle.store.specs.declared.Call.{Call}
 use Rattle.store.specs.declared.Call.the-variants.{Delete, Insert, Reset, Look, Count, Distinct}
-use Rattle.store.specs.declared.Refusal.the-variants.{Unsound, OtherTable, NoDesk, BadDesks}
+use Rattle.refusals.specs.declared.Refusal.the-variants.{Unsound, OtherTable, NoDesk, BadDesks}
 use Rattle.store.specs.declared.Answer.{Answer}
 use Rattle.store.specs.declared.Reply.{Reply}
 use Rattle.store.specs.declared.Answer.the-variants.{Done, Seen, Counted, Listed, Refused}
-use Rattle.store.specs.Answers.{Case, _gives_, decided, accepted}
+use Rattle.refusals.specs.Cases.{Case, _gives_, decided}
+use Rattle.store.specs.Answers.{accepted}
 use Rattle.store.specs.Desks.{view, serve, listAfter}
-use Rattle.store.specs.Calls.{tableCases, deskCases, sheetCases, crowded, begunAnswer, begunSheet, begun, answered, changed, sheetAfter, replied, told}
+use Rattle.sets.specs.Limits.{mostRows}
+use Rattle.refusals.specs.TableCases.{tableCases}
+use Rattle.store.specs.Calls.{deskCases, sheetCases, crowded, begunAnswer, begunSheet, begun, answered, changed, sheetAfter, replied, told}
 use Rattle.store.specs.Serving.{Trusted, Served, Possible, Responded, CarriedOut}
 use Rattle.store.proofs.Judging.{passed, Allowed, allowed, has-room}
 use Rattle.store.proofs.Trusting.{Limits, limits}
@@ -33,57 +36,57 @@ use Rattle.store.proofs.Trusting.{Limits, limits}
 -- ---- first cases and later ones
 
 -- where one of the first cases applies, the later ones are not looked at
-pub stopped : (cs ds : List Case) (a : Answer) → accepted (decided cs Done) ≡ false → decided (cs ++ ds) a ≡ decided cs Done
+pub stopped : (cs ds : List Case) (a : Answer) → accepted (decided Refused cs Done) ≡ false → decided Refused (cs ++ ds) a ≡ decided Refused cs Done
 unfolding decided accepted
 stopped [] ds a e = absurd (true≢false e)
 stopped (c ∷ cs) ds a e = go (c .applies) e (stopped cs ds a)
   where
-    go : (b : Bool) → accepted (cond b (Refused (c .refusal)) (decided cs Done)) ≡ false → (accepted (decided cs Done) ≡ false → decided (cs ++ ds) a ≡ decided cs Done)
-        → cond b (Refused (c .refusal)) (decided (cs ++ ds) a) ≡ cond b (Refused (c .refusal)) (decided cs Done)
+    go : (b : Bool) → accepted (cond b (Refused (c .refusal)) (decided Refused cs Done)) ≡ false → (accepted (decided Refused cs Done) ≡ false → decided Refused (cs ++ ds) a ≡ decided Refused cs Done)
+        → cond b (Refused (c .refusal)) (decided Refused (cs ++ ds) a) ≡ cond b (Refused (c .refusal)) (decided Refused cs Done)
     go true e p = refl
     go false e p = p e
 
 -- where none does, they decide
-pub went-on : (cs ds : List Case) (a : Answer) → accepted (decided cs Done) ≡ true → decided (cs ++ ds) a ≡ decided ds a
+pub went-on : (cs ds : List Case) (a : Answer) → accepted (decided Refused cs Done) ≡ true → decided Refused (cs ++ ds) a ≡ decided Refused ds a
 unfolding decided accepted
 went-on [] ds a e = refl
 went-on (c ∷ cs) ds a e = go (c .applies) e (went-on cs ds a)
   where
-    go : (b : Bool) → accepted (cond b (Refused (c .refusal)) (decided cs Done)) ≡ true → (accepted (decided cs Done) ≡ true → decided (cs ++ ds) a ≡ decided ds a)
-        → cond b (Refused (c .refusal)) (decided (cs ++ ds) a) ≡ decided ds a
+    go : (b : Bool) → accepted (cond b (Refused (c .refusal)) (decided Refused cs Done)) ≡ true → (accepted (decided Refused cs Done) ≡ true → decided Refused (cs ++ ds) a ≡ decided Refused ds a)
+        → cond b (Refused (c .refusal)) (decided Refused (cs ++ ds) a) ≡ decided Refused ds a
     go true e p = absurd (false≢true e)
     go false e p = p e
 
 -- and what is then said is `Done`
-done : (cs : List Case) → accepted (decided cs Done) ≡ true → decided cs Done ≡ Done
+done : (cs : List Case) → accepted (decided Refused cs Done) ≡ true → decided Refused cs Done ≡ Done
 unfolding decided accepted
 done [] e = refl
 done (c ∷ cs) e = go (c .applies) e (done cs)
   where
-    go : (b : Bool) → accepted (cond b (Refused (c .refusal)) (decided cs Done)) ≡ true → (accepted (decided cs Done) ≡ true → decided cs Done ≡ Done)
-        → cond b (Refused (c .refusal)) (decided cs Done) ≡ Done
+    go : (b : Bool) → accepted (cond b (Refused (c .refusal)) (decided Refused cs Done)) ≡ true → (accepted (decided Refused cs Done) ≡ true → decided Refused cs Done ≡ Done)
+        → cond b (Refused (c .refusal)) (decided Refused cs Done) ≡ Done
     go true e p = absurd (false≢true e)
     go false e p = p e
 
 -- ---- begin
 
 module _ (d : ℕ) (table : List ℕ) (desks : ℕ) where
-  pub begun-refused : accepted (decided (tableCases d table) Done) ≡ false
-      → record { answer = decided (tableCases d table) Done; sheet = freshSheet zero zero zero } ≡ begun d table desks
+  pub begun-refused : accepted (decided Refused (tableCases mostRows d table) Done) ≡ false
+      → record { answer = decided Refused (tableCases mostRows d table) Done; sheet = freshSheet zero zero zero } ≡ begun d table desks
   unfolding begunAnswer begunSheet
-  begun-refused e = let stop = stopped (tableCases d table) (((eqb desks zero || ltb 32 desks) gives BadDesks) ∷ []) Done e in rw (stop, e) refl
+  begun-refused e = let stop = stopped (tableCases mostRows d table) (((eqb desks zero || ltb 32 desks) gives BadDesks) ∷ []) Done e in rw (stop, e) refl
 
-  module _ (right : accepted (decided (tableCases d table) Done) ≡ true) where
+  module _ (right : accepted (decided Refused (tableCases mostRows d table) Done) ≡ true) where
     pub begun-desks : (eqb desks zero || ltb 32 desks) ≡ true → record { answer = Refused BadDesks; sheet = freshSheet zero zero zero } ≡ begun d table desks
     unfolding begunAnswer begunSheet decided accepted
-    begun-desks e = let on = went-on (tableCases d table) (((eqb desks zero || ltb 32 desks) gives BadDesks) ∷ []) Done right in rw (on, e) refl
+    begun-desks e = let on = went-on (tableCases mostRows d table) (((eqb desks zero || ltb 32 desks) gives BadDesks) ∷ []) Done right in rw (on, e) refl
 
     pub begun-right : (eqb desks zero || ltb 32 desks) ≡ false
-        → record { answer = decided (tableCases d table) Done; sheet = freshSheet d (length table) desks } ≡ begun d table desks
+        → record { answer = decided Refused (tableCases mostRows d table) Done; sheet = freshSheet d (length table) desks } ≡ begun d table desks
     unfolding begunAnswer begunSheet decided accepted
     begun-right e =
-        let on = went-on (tableCases d table) (((eqb desks zero || ltb 32 desks) gives BadDesks) ∷ []) Done right in
-        rw (on, e, done (tableCases d table) right) refl
+        let on = went-on (tableCases mostRows d table) (((eqb desks zero || ltb 32 desks) gives BadDesks) ∷ []) Done right in
+        rw (on, e, done (tableCases mostRows d table) right) refl
 
 -- ---- a desk's call
 
@@ -109,17 +112,17 @@ module _ (d : ℕ) (table : List ℕ) (s : Sheet) (k : ℕ) (c : Call) (old : Li
   }
 
   -- refusals 1 and 2
-  pub table-refused : accepted (decided (tableCases d table) Done) ≡ false → Responded d table s k c old (decided (tableCases d table) Done) old
+  pub table-refused : accepted (decided Refused (tableCases mostRows d table) Done) ≡ false → Responded d table s k c old (decided Refused (tableCases mostRows d table) Done) old
   unfolding answered
   table-refused e =
-      refused (decided (tableCases d table) Done)
-      (stopped (tableCases d table) (sheetCases d table s k) (serve d table (crowded s) (length old) (hides (s .marks) k) (own s k) c) e)
+      refused (decided Refused (tableCases mostRows d table) Done)
+      (stopped (tableCases mostRows d table) (sheetCases d table s k) (serve d table (crowded s) (length old) (hides (s .marks) k) (own s k) c) e)
       e
 
-  module _ (right : accepted (decided (tableCases d table) Done) ≡ true) where
-    on : answered d table s k c (length old) ≡ decided (sheetCases d table s k) (serve d table (crowded s) (length old) (hides (s .marks) k) (own s k) c)
+  module _ (right : accepted (decided Refused (tableCases mostRows d table) Done) ≡ true) where
+    on : answered d table s k c (length old) ≡ decided Refused (sheetCases d table s k) (serve d table (crowded s) (length old) (hides (s .marks) k) (own s k) c)
     unfolding answered
-    on = went-on (tableCases d table) (sheetCases d table s k) (serve d table (crowded s) (length old) (hides (s .marks) k) (own s k) c) right
+    on = went-on (tableCases mostRows d table) (sheetCases d table s k) (serve d table (crowded s) (length old) (hides (s .marks) k) (own s k) c) right
 
     -- refusal 3
     pub sheet-refused : sound s ≡ false → Responded d table s k c old (Refused Unsound) old
@@ -128,19 +131,19 @@ module _ (d : ℕ) (table : List ℕ) (s : Sheet) (k : ℕ) (c : Call) (old : Li
 
     module _ (whole : sound s ≡ true) where
       on-desk : answered d table s k c (length old)
-          ≡ decided (deskCases d (length table) (s .d) (s .rows) (s .desks) k) (serve d table (crowded s) (length old) (hides (s .marks) k) (own s k) c)
+          ≡ decided Refused (deskCases d (length table) (s .d) (s .rows) (s .desks) k) (serve d table (crowded s) (length old) (hides (s .marks) k) (own s k) c)
       unfolding sheetCases decided
       on-desk = on ∙ (rw whole refl)
 
       -- refusals 4 and 5
-      pub desk-refused : accepted (decided (deskCases d (length table) (s .d) (s .rows) (s .desks) k) Done) ≡ false
-          → Responded d table s k c old (decided (deskCases d (length table) (s .d) (s .rows) (s .desks) k) Done) old
+      pub desk-refused : accepted (decided Refused (deskCases d (length table) (s .d) (s .rows) (s .desks) k) Done) ≡ false
+          → Responded d table s k c old (decided Refused (deskCases d (length table) (s .d) (s .rows) (s .desks) k) Done) old
       desk-refused e =
           let cases = deskCases d (length table) (s .d) (s .rows) (s .desks) k in
-          refused (decided cases Done) (on-desk ∙ stopped cases [] (serve d table (crowded s) (length old) (hides (s .marks) k) (own s k) c) e) e
+          refused (decided Refused cases Done) (on-desk ∙ stopped cases [] (serve d table (crowded s) (length old) (hides (s .marks) k) (own s k) c) e) e
 
       -- refusals 6 to 12, and the answers
-      call-served : accepted (decided (deskCases d (length table) (s .d) (s .rows) (s .desks) k) Done) ≡ true → (a : Answer) (list : List ℕ) → Served d table s k c old a list
+      call-served : accepted (decided Refused (deskCases d (length table) (s .d) (s .rows) (s .desks) k) Done) ≡ true → (a : Answer) (list : List ℕ) → Served d table s k c old a list
           → (accepted a ≡ true → Possible s k c) → Responded d table s k c old a list
       unfolding decided
       call-served known a list served can =
@@ -205,8 +208,8 @@ possible d table s counts k T c places t = go c (allowed d table (crowded s) pla
     go Count a = tt
     go Distinct a = tt
 
-module _ (d : ℕ) (table : List ℕ) (k : ℕ) {s : Sheet} {r : Bool} {counts : List ℕ} (right : accepted (decided (tableCases d table) Done) ≡ true)
-    (survey : Surveyed sound s r counts) (whole : r ≡ true) (known : accepted (decided (deskCases d (length table) (s .d) (s .rows) (s .desks) k) Done) ≡ true) where
+module _ (d : ℕ) (table : List ℕ) (k : ℕ) {s : Sheet} {r : Bool} {counts : List ℕ} (right : accepted (decided Refused (tableCases mostRows d table) Done) ≡ true)
+    (survey : Surveyed sound s r counts) (whole : r ≡ true) (known : accepted (decided Refused (deskCases d (length table) (s .d) (s .rows) (s .desks) k) Done) ≡ true) where
   -- the parts of the sheet are read with the d and T of the table lent
   same-parts : (sheetOf d (length table) (s .desks) (s .used) (s .marks) (s .sets) (s .owners) ≡ s) × (k < s .desks)
   same-parts =

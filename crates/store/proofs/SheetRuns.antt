@@ -17,10 +17,13 @@ use Rattle.sheet.proofs.SoundAfter.{whole-fresh, sound-fresh, zeros-unsound, so
 use Rattle.store.specs.declared.Target.the-variants.{Table, Own}
 use Rattle.store.specs.declared.Call.{Call}
 use Rattle.store.specs.declared.Call.the-variants.{Delete, Insert, Reset, Look, Count, Distinct}
-use Rattle.store.specs.declared.Refusal.the-variants.{NoDesk}
-use Rattle.store.specs.Answers.{_gives_, decided, accepted}
+use Rattle.refusals.specs.declared.Refusal.the-variants.{NoDesk}
+use Rattle.store.specs.declared.Answer.the-variants.{Refused}
+use Rattle.refusals.specs.Cases.{_gives_, decided}
+use Rattle.store.specs.Answers.{accepted}
 use Rattle.store.specs.Desks.{serve}
-use Rattle.store.specs.Calls.{badCase, tableCases, sheetCases, begunAnswer, begunSheet, crowded, answered, changed, sheetAfter}
+use Rattle.refusals.specs.TableCases.{badCase, tableCases}
+use Rattle.store.specs.Calls.{sheetCases, begunAnswer, begunSheet, crowded, answered, changed, sheetAfter}
 use Rattle.store.specs.Promise.{Turn, sheetOn}
 use Rattle.store.proofs.Judging.{Good, good-parts, parts-good, passed, Allowed, allowed, has-room}
 
@@ -55,8 +58,8 @@ module _ {d : ℕ} {table : List ℕ} {desks : ℕ} (good : Good d table desks) 
 
   -- of refusals 1 to 5, 5 alone is left
   pub answered-here : {s : Sheet} → Reached d table desks s → (k : ℕ) (c : Call) (places : ℕ) → answered d table s k c places
-      ≡ decided ((leb desks k gives NoDesk) ∷ []) (serve d table (crowded s) places (hides (s .marks) k) (own s k) c)
-  unfolding answered tableCases sheetCases badCase decided
+      ≡ decided Refused ((leb desks k gives NoDesk) ∷ []) (serve d table (crowded s) places (hides (s .marks) k) (own s k) c)
+  unfolding answered tableCases sheetCases decided
   answered-here {s} r k c places =
       rw (
         ne-eqb d zero (λ e. absurd (omega (arith, good .some-value))),

@@ -16,11 +16,13 @@ use Rattle.sheet.proofs.UptoLaws.{those-ext}
 use Rattle.store.specs.declared.Target.the-variants.{Table, Own}
 use Rattle.store.specs.declared.Call.{Call}
 use Rattle.store.specs.declared.Call.the-variants.{Delete, Insert, Reset, Look, Count, Distinct}
-use Rattle.store.specs.declared.Refusal.{Refusal}
-use Rattle.store.specs.declared.Refusal.the-variants.{TooLarge, BadRow, Unsound, OtherTable, NoDesk, NoRow, HiddenAlready, BadSet, Full, NoRoom, ShortList, LongView, BadDesks}
+use Rattle.refusals.specs.declared.Refusal.{Refusal}
+use Rattle.refusals.specs.declared.Refusal.the-variants.{NoRow, HiddenAlready, BadSet, Full, NoRoom, ShortList, LongView}
+use Rattle.refusals.proofs.NumberTable.{ten-no-room}
 use Rattle.store.specs.declared.Answer.{Answer}
 use Rattle.store.specs.declared.Answer.the-variants.{Done, Seen, Counted, Listed, Refused}
-use Rattle.store.specs.Answers.{Case, _gives_, decided, accepted, numberOf}
+use Rattle.refusals.specs.Cases.{Case, _gives_, decided}
+use Rattle.store.specs.Answers.{accepted, numberOf}
 use Rattle.store.specs.Desks.{view, serve, listAfter, telling}
 use Rattle.store.specs.Promise.{properCall}
 use Rattle.store.proofs.Judging.{skipped, applied}
@@ -67,19 +69,7 @@ ten-is Done e = absurd (omega arith)
 ten-is (Seen set) e = absurd (omega arith)
 ten-is (Counted rows held) e = absurd (omega arith)
 ten-is (Listed n) e = absurd (omega arith)
-ten-is (Refused TooLarge) e = absurd (omega arith)
-ten-is (Refused (BadRow i)) e = absurd (omega arith)
-ten-is (Refused Unsound) e = absurd (omega arith)
-ten-is (Refused OtherTable) e = absurd (omega arith)
-ten-is (Refused NoDesk) e = absurd (omega arith)
-ten-is (Refused NoRow) e = absurd (omega arith)
-ten-is (Refused HiddenAlready) e = absurd (omega arith)
-ten-is (Refused BadSet) e = absurd (omega arith)
-ten-is (Refused Full) e = absurd (omega arith)
-ten-is (Refused NoRoom) e = refl
-ten-is (Refused ShortList) e = absurd (omega arith)
-ten-is (Refused LongView) e = absurd (omega arith)
-ten-is (Refused BadDesks) e = absurd (omega arith)
+ten-is (Refused r) e = ap Refused (ten-no-room r e)
 
 module _ (d : ℕ) (table : List ℕ) (full : Bool) (places : ℕ) (hid : ℕ → Bool) (own : List ℕ) where
   pub serve-ten : (c : Call) → numberOf (serve d table full places hid own c) ≡ 10 → (properCall d c ≡ true) × (8 ≤ length own) × (length own < 64) × (full ≡ true)
@@ -150,7 +140,7 @@ module _ (d : ℕ) (table : List ℕ) (full : Bool) (places : ℕ) (hid : ℕ �
   serve-but-ten (Delete (Own n)) ne = refl
   serve-but-ten (Insert set) ne = go (not (within d set)) (leb 64 (length own)) (leb 8 (length own)) full ne
     where
-      go : (a b c f : Bool) → let tests : Bool → Answer = λ x. decided ((a gives BadSet) ∷ (b gives Full) ∷ ((c && x) gives NoRoom) ∷ []) Done in
+      go : (a b c f : Bool) → let tests : Bool → Answer = λ x. decided Refused ((a gives BadSet) ∷ (b gives Full) ∷ ((c && x) gives NoRoom) ∷ []) Done in
           numberOf (tests f) ≢ 10 → tests f ≡ tests false
       go true b c f ne = refl
       go false true c f ne = refl

@@ -17,10 +17,10 @@ use Rattle.sheet.specs.Sheets.{own, owns, held, hides, owed}
 use Rattle.sheet.proofs.UptoLaws.{sum-ext}
 use Rattle.sheet.proofs.OwnAfter.{length-own}
 use Rattle.sheet.proofs.SoundParts.{sound-parts}
-use Rattle.store.specs.declared.Refusal.the-variants.{TooLarge}
+use Rattle.refusals.specs.declared.Refusal.the-variants.{TooLarge}
 use Rattle.store.specs.declared.Answer.the-variants.{Done}
 use Rattle.store.specs.Desks.{view}
-use Rattle.store.specs.Calls.{badCase, tableCases}
+use Rattle.refusals.specs.TableCases.{badCase, tableCases}
 use Rattle.store.specs.Serving.{Trusted}
 use Rattle.store.proofs.Judging.{passed, or-no, none-bad}
 use Rattle.store.proofs.ViewRows.{within-those, within-view}

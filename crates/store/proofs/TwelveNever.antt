@@ -22,12 +22,15 @@ use Rattle.sheet.proofs.SoundParts.{sound-parts}
 use Rattle.store.specs.declared.Target.the-variants.{Table, Own}
 use Rattle.store.specs.declared.Call.{Call}
 use Rattle.store.specs.declared.Call.the-variants.{Delete, Insert, Reset, Look, Count, Distinct}
-use Rattle.store.specs.declared.Refusal.the-variants.{TooLarge, Unsound, OtherTable, NoDesk, NoRow, HiddenAlready, BadSet, Full, NoRoom, ShortList, LongView}
+use Rattle.refusals.specs.declared.Refusal.the-variants.{TooLarge, Unsound, OtherTable, NoDesk, NoRow, HiddenAlready, BadSet, Full, NoRoom, ShortList, LongView}
 use Rattle.store.specs.declared.Answer.{Answer}
 use Rattle.store.specs.declared.Answer.the-variants.{Done, Seen, Listed}
-use Rattle.store.specs.Answers.{Case, _gives_, decided, number, numberOf}
+use Rattle.refusals.specs.Refusals.{number}
+use Rattle.refusals.specs.Cases.{Case, _gives_, decided}
+use Rattle.store.specs.Answers.{numberOf}
 use Rattle.store.specs.Desks.{view, serve}
-use Rattle.store.specs.Calls.{badCase, tableCases, sheetCases, crowded, answered}
+use Rattle.refusals.specs.TableCases.{badCase, tableCases}
+use Rattle.store.specs.Calls.{sheetCases, crowded, answered}
 use Rattle.store.specs.Promise.{Turn, classStore, sheetOn}
 use Rattle.store.proofs.Judging.{or-no, skipped, applied}
 
@@ -59,7 +62,6 @@ module _ (d : ℕ) (table : List ℕ) (full : Bool) (places : ℕ) (hid : ℕ �
       omega (arith, ltb-true 320 rows (applied 12 (ltb 320 rows) LongView a (omega arith) (short .1)), view-most table hid own)
 
 not-bad : (f : Found) → number (badCase f .refusal) ≢ 12
-unfolding badCase
 not-bad Nothing = omega arith
 not-bad (At i) = omega arith
 

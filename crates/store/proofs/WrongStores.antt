@@ -19,10 +19,11 @@ use Rattle.sheet.proofs.SoundParts.{sound-parts}
 use Rattle.store.specs.declared.Target.the-variants.{Table, Own}
 use Rattle.store.specs.declared.Call.{Call}
 use Rattle.store.specs.declared.Call.the-variants.{Delete, Insert, Look, Count}
-use Rattle.store.specs.declared.Refusal.the-variants.{NoDesk, NoRow, HiddenAlready, NoRoom}
+use Rattle.refusals.specs.declared.Refusal.the-variants.{NoDesk, NoRow, HiddenAlready, NoRoom}
 use Rattle.store.specs.declared.Answer.{Answer}
 use Rattle.store.specs.declared.Answer.the-variants.{Done, Seen, Counted, Refused}
-use Rattle.store.specs.Answers.{_gives_, decided, accepted, numberOf}
+use Rattle.refusals.specs.Cases.{_gives_, decided}
+use Rattle.store.specs.Answers.{accepted, numberOf}
 use Rattle.store.specs.Desks.{view, serve, Told}
 use Rattle.store.specs.Calls.{begunAnswer}
 use Rattle.store.specs.Promise.{Turn, Store, hiddenIn, ownIn, member, alone, history, heldBy, usedBy, owedBy, properCall, proper, Demand3, sheetOn, classStore}

@@ -4,36 +4,28 @@ use mathlib.Core.Bool.{Bool, true, false, cond, not, _&&_, _||_}
 use mathlib.Core.List.{List, [], _∷_, _++_}
 use lib.Dec.{eqb, leb, ltb}
 use lib.ListN.{length}
-use Rattle.sets.specs.declared.Found.{Found}
-use Rattle.sets.specs.declared.Found.the-variants.{At, Nothing}
-use Rattle.sets.specs.Tables.{badRow}
+use Rattle.sets.specs.Limits.{mostRows}
+use Rattle.sets.specs.Limits.{mostRows}
+use Rattle.refusals.specs.TableCases.{tableCases}
 use Rattle.sheet.specs.declared.Sheet.{Sheet}
 use Rattle.sheet.specs.Sheets.{own, hides, owed, sound}
 use Rattle.sheet.specs.Changes.{freshSheet, hiding, adding, without, resetting}
 use Rattle.store.specs.declared.Target.the-variants.{Table, Own}
 use Rattle.store.specs.declared.Call.{Call}
 use Rattle.store.specs.declared.Call.the-variants.{Delete, Insert, Reset, Look, Count, Distinct}
-use Rattle.store.specs.declared.Refusal.the-variants.{TooLarge, BadRow, Unsound, OtherTable, NoDesk, BadDesks}
+use Rattle.refusals.specs.declared.Refusal.the-variants.{Unsound, OtherTable, NoDesk, BadDesks}
 use Rattle.store.specs.declared.Answer.{Answer}
-use Rattle.store.specs.declared.Answer.the-variants.{Done}
+use Rattle.store.specs.declared.Answer.the-variants.{Done, Refused}
 use Rattle.store.specs.declared.Reply.{Reply}
-use Rattle.store.specs.Answers.{Case, _gives_, decided, accepted}
+use Rattle.refusals.specs.Cases.{Case, _gives_, decided}
+use Rattle.store.specs.Answers.{accepted}
 use Rattle.store.specs.Desks.{serve, Told, telling}
-
--- ---- refusals 1 and 2, of any call
-
-unfoldable pub badCase : Found → Case
-badCase Nothing = false gives BadRow zero
-badCase (At i) = true gives BadRow i
-
-unfoldable pub tableCases : ℕ → List ℕ → List Case
-tableCases d table = ((eqb d zero || ltb 64 d || ltb 256 (length table)) gives TooLarge) ∷ badCase (badRow d table) ∷ []
 
 -- ---- begin
 
 -- 'Begin is refused by 1, 2 and 13 only'
 unfoldable pub begunAnswer : ℕ → List ℕ → ℕ → Answer
-begunAnswer d table desks = decided (tableCases d table ++ (((eqb desks zero || ltb 32 desks) gives BadDesks) ∷ [])) Done
+begunAnswer d table desks = decided Refused (tableCases mostRows d table ++ (((eqb desks zero || ltb 32 desks) gives BadDesks) ∷ [])) Done
 
 -- 'a fresh sheet for this d and T'; refused, 'it then returns a sheet of zeros, which isn't sound'
 unfoldable pub begunSheet : ℕ → List ℕ → ℕ → Sheet
@@ -59,7 +51,7 @@ sheetCases d table s k = (not (sound s) gives Unsound) ∷ deskCases d (length t
 -- what desk k is answered
 unfoldable pub answered : ℕ → List ℕ → Sheet → ℕ → Call → ℕ → Answer
 answered d table s k c places =
-    decided (tableCases d table ++ sheetCases d table s k) (serve d table (crowded s) places (hides (s .marks) k) (own s k) c)
+    decided Refused (tableCases mostRows d table ++ sheetCases d table s k) (serve d table (crowded s) places (hides (s .marks) k) (own s k) c)
 
 -- what an accepted call makes of the sheet; 'Nothing else on the sheet changes'
 unfoldable pub changed : Sheet → ℕ → Call → Sheet

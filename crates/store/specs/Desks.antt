@@ -11,10 +11,10 @@ use Rattle.sheet.specs.Upto.{those}
 use Rattle.store.specs.declared.Target.the-variants.{Table, Own}
 use Rattle.store.specs.declared.Call.{Call}
 use Rattle.store.specs.declared.Call.the-variants.{Delete, Insert, Reset, Look, Count, Distinct}
-use Rattle.store.specs.declared.Refusal.the-variants.{NoRow, HiddenAlready, BadSet, Full, NoRoom, ShortList, LongView}
+use Rattle.refusals.specs.declared.Refusal.the-variants.{NoRow, HiddenAlready, BadSet, Full, NoRoom, ShortList, LongView}
 use Rattle.store.specs.declared.Answer.{Answer}
 use Rattle.store.specs.declared.Answer.the-variants.{Done, Seen, Counted, Listed, Refused}
-use Rattle.store.specs.Answers.{Case, _gives_, decided}
+use Rattle.refusals.specs.Cases.{Case, _gives_, decided}
 
 -- 'A desk's view is the table's rows that it hasn't hidden, in table order, then its own rows in order of insertion.'
 unfoldable pub view : List ℕ → (ℕ → Bool) → List ℕ → List ℕ
@@ -60,7 +60,7 @@ module _ (d : ℕ) (table : List ℕ) (full : Bool) (places : ℕ) (hid : ℕ �
   granted Distinct = Listed (length (kept d (view table hid own)))
 
   unfoldable pub serve : Call → Answer
-  serve c = decided (callCases c) (granted c)
+  serve c = decided Refused (callCases c) (granted c)
 
 -- 'the first n places of the lent list get the kept positions, later places keep what they had'; other calls write nothing
 unfoldable pub listAfter : ℕ → List ℕ → Answer → List ℕ → List ℕ

@@ -12,8 +12,10 @@ use Rattle.sheet.specs.Upto.{sumTo}
 use Rattle.store.specs.declared.Target.the-variants.{Table, Own}
 use Rattle.store.specs.declared.Call.{Call}
 use Rattle.store.specs.declared.Call.the-variants.{Delete, Insert, Reset, Look, Count, Distinct}
-use Rattle.store.specs.declared.Refusal.the-variants.{NoDesk}
-use Rattle.store.specs.Answers.{_gives_, decided, accepted, numberOf}
+use Rattle.refusals.specs.declared.Refusal.the-variants.{NoDesk}
+use Rattle.store.specs.declared.Answer.the-variants.{Refused}
+use Rattle.refusals.specs.Cases.{_gives_, decided}
+use Rattle.store.specs.Answers.{accepted, numberOf}
 use Rattle.store.specs.Desks.{serve, Told, telling}
 use Rattle.store.specs.Calls.{begunSheet, sheetAfter, told}
 
@@ -60,7 +62,7 @@ member (m ∷ ms) n = eqb m n || member ms n
 unfoldable pub alone : ℕ → List ℕ → ℕ → List Call → Turn → Told
 alone d table desks h t =
     telling d table (member (hiddenIn h)) (ownIn h) (t .list)
-    (decided ((leb desks (t .desk) gives NoDesk) ∷ []) (serve d table false (length (t .list)) (member (hiddenIn h)) (ownIn h) (t .call)))
+    (decided Refused ((leb desks (t .desk) gives NoDesk) ∷ []) (serve d table false (length (t .list)) (member (hiddenIn h)) (ownIn h) (t .call)))
 
 -- ---- what a store's turns come to
 

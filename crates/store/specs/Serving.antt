@@ -11,15 +11,18 @@ use Rattle.store.specs.declared.Target.the-variants.{Table, Own}
 use Rattle.store.specs.declared.Call.{Call}
 use Rattle.store.specs.declared.Call.the-variants.{Delete, Insert, Reset, Look, Count, Distinct}
 use Rattle.store.specs.declared.Answer.{Answer}
-use Rattle.store.specs.declared.Answer.the-variants.{Done}
-use Rattle.store.specs.Answers.{decided, accepted}
+use Rattle.store.specs.declared.Answer.the-variants.{Done, Refused}
+use Rattle.refusals.specs.Cases.{decided}
+use Rattle.store.specs.Answers.{accepted}
 use Rattle.store.specs.Desks.{view, serve, listAfter}
 use Rattle.sheet.specs.Surveys.{sheetOf}
-use Rattle.store.specs.Calls.{tableCases, crowded, answered, changed, sheetAfter, told}
+use Rattle.sets.specs.Limits.{mostRows}
+use Rattle.refusals.specs.TableCases.{tableCases}
+use Rattle.store.specs.Calls.{crowded, answered, changed, sheetAfter, told}
 
 -- table, sheet and desk are right, and counts has how many rows each desk holds
 pub record Trusted (d : ℕ) (table : List ℕ) (s : Sheet) (counts : List ℕ) (k : ℕ) : Type 0 where
-  pub table-right : accepted (decided (tableCases d table) Done) ≡ true
+  pub table-right : accepted (decided Refused (tableCases mostRows d table) Done) ≡ true
   pub sheet-right : sound s ≡ true
   pub desk-there : k < s .desks
   pub counted : (j : ℕ) → j < 32 → at counts j ≡ held s j

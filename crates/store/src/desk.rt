@@ -7,16 +7,16 @@ ghost use Rattle.theory.specs.Kept.{kept};
 ghost use Rattle.distinct.specs.Steps.{InColumn};
 ghost use Rattle.sheet.specs.Sheets.{hides};
 ghost use Rattle.sheet.specs.Surveys.{sheetOf};
-ghost use Rattle.store.specs.declared.Answer.the-variants.{Done, Seen, Listed};
-ghost use Rattle.store.specs.Answers.{decided};
+ghost use Rattle.store.specs.declared.Answer.the-variants.{Done, Seen, Listed, Refused};
+ghost use Rattle.refusals.specs.Cases.{decided};
 ghost use Rattle.store.specs.Calls.{deskCases};
 ghost use Rattle.store.specs.Desks.{rowCases, hideCases, insertCases, listCases, listAfter};
 ghost use Rattle.store.specs.Serving.{Trusted, Served};
 use crate::Answer;
 use crate::Call;
-use crate::Refusal;
 use crate::Target;
 use crate::view;
+use refusals::Refusal;
 use sheet::Sheet;
 
 // The table lent is of the d and T that the sheet began with, and the desk is one of its desks: Done, or refusal 4 or 5.
@@ -28,7 +28,7 @@ pub fn known(
     desks: usize,
     desk: usize,
 ) -> Answer
-    ensures { λ r. ⌜ r ≡ decided (deskCases d rows sheetd sheetrows desks desk) Done ⌝ }
+    ensures { λ r. ⌜ r ≡ decided Refused (deskCases d rows sheetd sheetrows desks desk) Done ⌝ }
 {
     if sheetd != d {
         return Answer::Refused(Refusal::OtherTable);
@@ -45,7 +45,7 @@ pub fn known(
 // A table row is hidden, of `rows` that the table has.
 fn delete_table(rows: usize, marks: &[u64; Sheet::MARKS], desk: usize, n: usize) -> Answer
     requires { ⌜ (desk < 32) × (rows ≤ 256) ⌝ }
-    ensures { λ r. ⌜ r ≡ decided (hideCases rows (hides (now (marks .entry)) desk) n) Done ⌝ }
+    ensures { λ r. ⌜ r ≡ decided Refused (hideCases rows (hides (now (marks .entry)) desk) n) Done ⌝ }
 {
     if rows <= n {
         return Answer::Refused(Refusal::NoRow);
@@ -58,7 +58,7 @@ fn delete_table(rows: usize, marks: &[u64; Sheet::MARKS], desk: usize, n: usize)
 
 // An own row goes, of those that the desk has.
 fn delete_own(held: usize, n: usize) -> Answer
-    ensures { λ r. ⌜ r ≡ decided (rowCases held n) Done ⌝ }
+    ensures { λ r. ⌜ r ≡ decided Refused (rowCases held n) Done ⌝ }
 {
     if held <= n {
         return Answer::Refused(Refusal::NoRow);
@@ -69,7 +69,7 @@ fn delete_own(held: usize, n: usize) -> Answer
 // A row is put in; `full` where every free place is owed.
 fn insert(d: usize, full: bool, held: usize, set: u64) -> Answer
     requires { ⌜ d ≤ 64 ⌝ }
-    ensures { λ r. ⌜ r ≡ decided (insertCases d full held set) Done ⌝ }
+    ensures { λ r. ⌜ r ≡ decided Refused (insertCases d full held set) Done ⌝ }
 {
     if !sets::within(set, d) {
         return Answer::Refused(Refusal::BadSet);
@@ -88,7 +88,7 @@ fn insert(d: usize, full: bool, held: usize, set: u64) -> Answer
 
 // A row of the view is shown.
 fn look(rows: &[u64], n: usize) -> Answer
-    ensures { λ r. ⌜ r ≡ decided (rowCases (length (now (rows .entry))) n) (Seen (at (now (rows .entry)) n)) ⌝ }
+    ensures { λ r. ⌜ r ≡ decided Refused (rowCases (length (now (rows .entry))) n) (Seen (at (now (rows .entry)) n)) ⌝ }
 {
     if rows.len() <= n {
         return Answer::Refused(Refusal::NoRow);
@@ -99,7 +99,7 @@ fn look(rows: &[u64], n: usize) -> Answer
 // The kept rows of the view are listed.
 fn list_kept(d: usize, rows: &[u64], list: &mut [usize]) -> Answer
     requires { ⌜ (length (now rows) ≤ 320) × InColumn d (now rows) ⌝ }
-    ensures { λ r. ⌜ (r ≡ decided (listCases (length (now (list .entry))) (length (now (rows .entry)))) (Listed (length (kept d (now (rows .entry)))))) × (now (list .exit) ≡ listAfter d (now (rows .entry)) r (now (list .entry))) ⌝ }
+    ensures { λ r. ⌜ (r ≡ decided Refused (listCases (length (now (list .entry))) (length (now (rows .entry)))) (Listed (length (kept d (now (rows .entry)))))) × (now (list .exit) ≡ listAfter d (now (rows .entry)) r (now (list .entry))) ⌝ }
 {
     if list.len() < rows.len() {
         return Answer::Refused(Refusal::ShortList);

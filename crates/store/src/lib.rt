@@ -3,9 +3,9 @@ ghost use mathlib.Core.Path.{_≡_};
 ghost use lib.ListN.{length};
 ghost use Rattle.store.specs.Answers.{accepted};
 ghost use Rattle.store.specs.Calls.{begun, replied, told};
+use refusals::Refusal;
 use sheet::Sheet;
 
-pub mod refusals; // refusals.rt: the refusals by number
 mod table; // table.rt: refusals 1 and 2
 mod view; // view.rt: what a desk sees
 mod desk; // desk.rt: refusals 4 to 12, and the answers
@@ -25,23 +25,6 @@ pub enum Call {
     Look(usize),
     Count,
     Distinct,
-}
-
-// Why a call is refused, in the order of the refusal numbers.
-pub enum Refusal {
-    TooLarge,
-    BadRow(usize),
-    Unsound,
-    OtherTable,
-    NoDesk,
-    NoRow,
-    HiddenAlready,
-    BadSet,
-    Full,
-    NoRoom,
-    ShortList,
-    LongView,
-    BadDesks,
 }
 
 // What is answered: a change is done; the set at a position; the rows in the view and the own rows; how many positions were listed; or a refusal.

@@ -4,11 +4,11 @@ ghost use Rattle.sheet.specs.Surveys.{sheetOf};
 ghost use Rattle.store.specs.Serving.{Possible, Responded, Changed, CarriedOut};
 use crate::Answer;
 use crate::Call;
-use crate::Refusal;
 use crate::Target;
 use crate::accepted;
 use crate::desk;
 use crate::table;
+use refusals::Refusal;
 use sheet::Sheet;
 
 // What the desk is answered, from the parts of the sheet, and for DISTINCT the kept positions in its list.

@@ -1,6 +1,6 @@
 -- `delete_own` meets its contract. Assumes nothing.
 use borrow.Author.Tests.{le-leb, lt-leb}
-use Rattle.store.specs.Answers.{decided}
+use Rattle.refusals.specs.Cases.{decided}
 use Rattle.store.proofs.desk.delete_own.Statement.{statement}
 use Rattle.store.proofs.desk.delete_own.Tie as tie
 

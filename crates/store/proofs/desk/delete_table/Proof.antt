@@ -1,7 +1,7 @@
 -- `delete_table` meets its contract. Assumes nothing.
 use mathlib.Core.Path.{sym, _∙_}
 use borrow.Author.Tests.{le-leb, lt-leb}
-use Rattle.store.specs.Answers.{decided}
+use Rattle.refusals.specs.Cases.{decided}
 use borrow.Author.Needs.{needs}
 use Rattle.store.proofs.desk.delete_table.Statement.{statement}
 use Rattle.store.proofs.desk.delete_table.Tie as tie

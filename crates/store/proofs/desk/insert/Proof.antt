@@ -1,7 +1,7 @@
 -- `insert` meets its contract. Assumes nothing.
 use mathlib.Core.Path.{sym, _∙_}
 use borrow.Author.Tests.{le-leb, lt-leb, not-true, not-false}
-use Rattle.store.specs.Answers.{decided}
+use Rattle.refusals.specs.Cases.{decided}
 use borrow.Author.Needs.{needs}
 use Rattle.store.proofs.desk.insert.Statement.{statement}
 use Rattle.store.proofs.desk.insert.Tie as tie

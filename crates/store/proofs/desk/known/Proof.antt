@@ -1,6 +1,6 @@
 -- `known` meets its contract: the tests in the order of `deskCases`. Assumes nothing.
 use borrow.Author.Tests.{eq-eqb, ne-eqb, le-leb, lt-leb}
-use Rattle.store.specs.Answers.{decided}
+use Rattle.refusals.specs.Cases.{decided}
 use Rattle.store.proofs.desk.known.Statement.{statement}
 use Rattle.store.proofs.desk.known.Tie as tie
 

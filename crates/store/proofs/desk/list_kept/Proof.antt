@@ -6,7 +6,7 @@ use lib.ListN.{drop}
 use borrow.Author.Tests.{lt-ltb, le-ltb}
 use Rattle.theory.specs.Kept.{kept}
 use Rattle.store.specs.declared.Answer.the-variants.{Listed}
-use Rattle.store.specs.Answers.{decided}
+use Rattle.refusals.specs.Cases.{decided}
 use Rattle.store.specs.Desks.{listAfter}
 use borrow.Author.Needs.{needs}
 use Rattle.store.proofs.desk.list_kept.Statement.{statement}

@@ -1,6 +1,6 @@
 -- `look` meets its contract. Assumes nothing.
 use borrow.Author.Tests.{le-leb, lt-leb}
-use Rattle.store.specs.Answers.{decided}
+use Rattle.refusals.specs.Cases.{decided}
 use borrow.Author.Needs.{needs}
 use Rattle.store.proofs.desk.look.Statement.{statement}
 use Rattle.store.proofs.desk.look.Tie as tie

@@ -6,9 +6,12 @@ use borrow.Author.Tests.{not-true, not-false}
 use borrow.Author.Needs.{needs}
 use Rattle.sheet.specs.declared.Sheet.{Sheet}
 use Rattle.sheet.specs.Surveys.{sheetOf}
-use Rattle.store.specs.declared.Answer.the-variants.{Done}
-use Rattle.store.specs.Answers.{decided, accepted}
-use Rattle.store.specs.Calls.{tableCases, deskCases}
+use Rattle.store.specs.declared.Answer.the-variants.{Done, Refused}
+use Rattle.refusals.specs.Cases.{decided}
+use Rattle.store.specs.Answers.{accepted}
+use Rattle.sets.specs.Limits.{mostRows}
+use Rattle.refusals.specs.TableCases.{tableCases}
+use Rattle.store.specs.Calls.{deskCases}
 use Rattle.store.proofs.Replying.{table-refused, sheet-refused, desk-refused, trusted-parts, served-responds}
 use Rattle.store.proofs.parts.respond.Statement.{statement}
 use Rattle.store.proofs.parts.respond.Tie as tie
@@ -18,7 +21,7 @@ abbrev sheetAt : tie.Start → Sheet
 sheetAt e = sheetOf (e .args .sheetd) (e .args .rows) (e .args .desks) (e .args .used) (e .args .marks .now) (e .args .sets .now) (e .args .owners .now)
 
 -- once the table is right
-right-at : (c : tie.Else1) → let e = c .before .before .before .before .before in accepted (decided (tableCases (e .args .d) (e .args .table .now)) Done) ≡ true
+right-at : (c : tie.Else1) → let e = c .before .before .before .before .before in accepted (decided Refused (tableCases mostRows (e .args .d) (e .args .table .now)) Done) ≡ true
 right-at c = ap accepted (sym (c .before .before .judge .ensures)) ∙ sym (c .before .accepted .ensures) ∙ not-false (c .before .accepted .result) (c .if1 .left)
 
 -- and the sheet is sound
@@ -27,7 +30,7 @@ sound-at c = not-false (c .before .before .check .result) (c .if2 .left)
 
 -- and the desk is there
 known-at : (c : tie.Else3) → let e = c .before .before .before .before .before .before .before .before .before .before .before .before in
-    accepted (decided (deskCases (e .args .d) (length (e .args .table .now)) (e .args .sheetd) (e .args .rows) (e .args .desks) (e .args .desk)) Done) ≡ true
+    accepted (decided Refused (deskCases (e .args .d) (length (e .args .table .now)) (e .args .sheetd) (e .args .rows) (e .args .desks) (e .args .desk)) Done) ≡ true
 known-at c = ap accepted (sym (c .before .before .known .ensures)) ∙ sym (c .before .accepted2 .ensures) ∙ not-false (c .before .accepted2 .result) (c .if3 .left)
 
 judge-requires : tie.Need-judge-requires

@@ -1,50 +1,32 @@
--- `judge` meets its contract: the tests in the order of `tableCases`. Assumes nothing.
+-- `judge` meets its contract: what was judged of the table is told as a call's answer. Assumes nothing.
 use mathlib.Core.Path.{sym, _∙_}
-use borrow.Author.Tests.{eq-eqb, ne-eqb, lt-ltb, le-ltb}
-use Rattle.store.specs.Answers.{decided}
-use Rattle.store.specs.Calls.{badCase, tableCases}
 use borrow.Author.Needs.{needs}
+use Rattle.sets.specs.Limits.{mostRows}
+use Rattle.refusals.specs.TableCases.{tableCases}
+use Rattle.refusals.proofs.Outcomes.{stands, refuses}
+use Rattle.refusals.proofs.TablesJudged.{judged-right, judged-refused}
+use Rattle.store.specs.declared.Answer.the-variants.{Done, Refused}
 use Rattle.store.proofs.table.judge.Statement.{statement}
 use Rattle.store.proofs.table.judge.Tie as tie
 
-returns : tie.Need-returns
-unfolding decided badCase tableCases
-returns c = simp (eq-eqb _ _ (c .if1 .taken))
-
-returns-2 : tie.Need-returns-2
-unfolding decided badCase tableCases
-returns-2 c = simp (ne-eqb _ _ (c .before .if1 .left), lt-ltb _ _ (c .if2 .taken))
-
-returns-3 : tie.Need-returns-3
-unfolding decided badCase tableCases
-returns-3 c = simp (ne-eqb _ _ (c .before .before .if1 .left), le-ltb _ _ (c .before .if2 .left), lt-ltb _ _ (c .if3 .taken))
-
-bad-row-requires : tie.Need-bad-row-requires
-bad-row-requires c κs = search needs
+judge-requires : tie.Need-judge-requires
+judge-requires c κs = search needs
 
 enum-told : tie.Need-enum-told
 enum-told c = search needs
 
-enum-known-bad : tie.Need-enum-known-bad
-enum-known-bad c = search needs
+enum-known-judged : tie.Need-enum-known-judged
+enum-known-judged c = search needs
 
-returns-4 : tie.Need-returns-4
-unfolding decided badCase tableCases
-returns-4 c = simp (ne-eqb _ _ (c .before .before .before .before .before .if1 .left), le-ltb _ _ (c .before .before .before .before .if2 .left), le-ltb _ _ (c .before .before .before .if3 .left), sym (c .before .before .bad-row .ensures) ∙ c .enum-told .given .1)
+returns : tie.Need-returns
+returns c = 
+    let cases = tableCases mostRows (c .before .before .before .before .args .d) (c .before .before .before .before .args .table .now) in
+    sym (stands Refused cases (judged-right cases (sym (c .before .before .judge .ensures) ∙ c .enum-told .given .1)) Done)
 
-returns-5 : tie.Need-returns-5
-unfolding decided badCase tableCases
-returns-5 c = simp (ne-eqb _ _ (c .before .before .before .before .before .before .if1 .left), le-ltb _ _ (c .before .before .before .before .before .if2 .left), le-ltb _ _ (c .before .before .before .before .if3 .left), sym (c .before .before .before .bad-row .ensures) ∙ c .before .bad .given .1)
+returns-2 : tie.Need-returns-2
+returns-2 c = 
+    let cases = tableCases mostRows (c .before .before .before .before .before .args .d) (c .before .before .before .before .before .args .table .now) in
+    sym (refuses Refused cases _ (judged-refused cases _ (sym (c .before .before .before .judge .ensures) ∙ c .before .judged .given .1)) Done)
 
 pub judge-spec : {M : Type 1} → statement M
-judge-spec =
-    tie.close
-    (tie.spec
-    returns
-    returns-2
-    returns-3
-    bad-row-requires
-    enum-told
-    enum-known-bad
-    returns-4
-    returns-5)
+judge-spec = tie.close (tie.spec judge-requires enum-told enum-known-judged returns returns-2)
