@@ -10,7 +10,7 @@ abbrev case : List ℕ → List ℕ → Case
 case v k = record { view = v; keeps = k }
 
 -- the sets of the table: a is value 0, b is 1, and so on
-abbrev a : ℕ
+abbrev pub a : ℕ
 a = 0b1
 
 abbrev pub ab : ℕ
