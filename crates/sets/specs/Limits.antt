@@ -29,6 +29,6 @@ mostHeld = 64
 abbrev pub mostInView : ℕ
 mostInView = mostRows + mostHeld
 
--- no limit of the request: how many bits a word of lent memory has
+-- no limit of the request: how many bits a word of lent memory has (`sets::BITS` in the code)
 abbrev pub wordBits : ℕ
 wordBits = 64

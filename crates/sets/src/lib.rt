@@ -3,14 +3,18 @@ ghost use mathlib.Core.Path.{_≡_};
 ghost use Prim.Native.Nat.{_-_, _^_, _<_, _≤_};
 ghost use lib.Bits.{bitOr};
 ghost use lib.Count.{trailingZeros, leadingZeros};
+ghost use Rattle.sets.specs.Limits.{wordBits};
 ghost use Rattle.sets.specs.Sets.{has, single, subset, proper, minus, below, within};
 ghost use Rattle.sets.specs.Tables.{badRow};
 
-// Value v is possible in the row. Total, so that no caller owes a bound: a word has no value 64.
+// How many bits a word has: a row of one word has no value from there on. (The limit of d, a rule of the request, is `Sheet::VALUES`.)
+pub const BITS: usize = 64;
+
+// Value v is possible in the row. Total, so that no caller owes a bound.
 pub fn has(row: u64, v: usize) -> bool
     ensures { λ r. ⌜ r ≡ has row v ⌝ }
 {
-    if v < 64 { (row >> v) % 2 == 1 } else { false }
+    if v < BITS { (row >> v) % 2 == 1 } else { false }
 }
 
 // Every value of a is one of b's.
@@ -36,7 +40,7 @@ pub fn minus(a: u64, b: u64) -> u64
 
 // The set with the value v put in.
 pub fn with(set: u64, v: usize) -> u64
-    requires { ⌜ v < 64 ⌝ }
+    requires { ⌜ v < wordBits ⌝ }
     ensures { λ r. ⌜ r ≡ bitOr set (single v) ⌝ }
 {
     set | (1 << v)
@@ -44,7 +48,7 @@ pub fn with(set: u64, v: usize) -> u64
 
 // The set with the value v taken out.
 pub fn without(set: u64, v: usize) -> u64
-    requires { ⌜ v < 64 ⌝ }
+    requires { ⌜ v < wordBits ⌝ }
     ensures { λ r. ⌜ r ≡ minus set (single v) ⌝ }
 {
     minus(set, 1 << v)
@@ -52,26 +56,26 @@ pub fn without(set: u64, v: usize) -> u64
 
 // The set of all values below d.
 pub fn all(d: usize) -> u64
-    requires { ⌜ d ≤ 64 ⌝ }
+    requires { ⌜ d ≤ wordBits ⌝ }
     ensures { λ r. ⌜ r ≡ 2 ^ d - 1 ⌝ }
 {
-    if d < 64 {
+    if d < BITS {
         (1 << d) - 1
     } else {
         0xffff_ffff_ffff_ffff
     }
 }
 
-// The lowest value of the set, and 64 where it has none.
+// The lowest value of the set, and `BITS` where it has none.
 pub fn lowest(set: u64) -> usize
-    ensures { λ r. ⌜ r ≡ trailingZeros 64 set ⌝ }
+    ensures { λ r. ⌜ r ≡ trailingZeros wordBits set ⌝ }
 {
     u64::trailing_zeros(set) as usize
 }
 
 // The set without its lowest value.
 pub fn rest(set: u64) -> u64
-    ensures { λ r. ⌜ r ≡ minus set (single (trailingZeros 64 set)) ⌝ }
+    ensures { λ r. ⌜ r ≡ minus set (single (trailingZeros wordBits set)) ⌝ }
 {
     if set == 0 {
         return 0;
@@ -81,16 +85,16 @@ pub fn rest(set: u64) -> u64
 
 // One more than the highest value of the set, and 0 where it has none.
 pub fn top(set: u64) -> usize
-    ensures { λ r. ⌜ r ≡ 64 - leadingZeros 64 set ⌝ }
+    ensures { λ r. ⌜ r ≡ wordBits - leadingZeros wordBits set ⌝ }
 {
-    64 - u64::leading_zeros(set) as usize
+    BITS - u64::leading_zeros(set) as usize
 }
 
 // No value d or above.
 pub fn below(row: u64, d: usize) -> bool
     ensures { λ r. ⌜ r ≡ below d row ⌝ }
 {
-    if d < 64 { row >> d == 0 } else { true }
+    if d < BITS { row >> d == 0 } else { true }
 }
 
 // Not empty, and no value d or above.

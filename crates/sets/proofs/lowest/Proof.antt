@@ -2,11 +2,12 @@
 use native.Mathlib.Omega.{arith}
 use lib.Count.{trailing-le}
 use borrow.Author.Needs.{needs}
+use Rattle.sets.specs.Limits.{wordBits}
 use Rattle.sets.proofs.lowest.Statement.{statement}
 use Rattle.sets.proofs.lowest.Tie as tie
 
 cast-result : tie.Need-cast-result
-cast-result c = record { fits = omega (arith, trailing-le 64 (c .args .set)) }
+cast-result c = record { fits = omega (arith, trailing-le wordBits (c .args .set)) }
 
 returns : tie.Need-returns
 returns c = search needs

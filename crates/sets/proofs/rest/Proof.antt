@@ -3,6 +3,7 @@ use Prim.Native.Nat.{ℕ}
 use mathlib.Core.Path.{sym, ap}
 use borrow.Author.Needs.{needs}
 use lib.Count.{trailingZeros}
+use Rattle.sets.specs.Limits.{wordBits}
 use Rattle.sets.specs.Sets.{single, minus}
 use Rattle.sets.proofs.Extremes.{rest-is}
 use Rattle.sets.proofs.rest.Statement.{statement}
@@ -10,13 +11,13 @@ use Rattle.sets.proofs.rest.Tie as tie
 
 returns : tie.Need-returns
 unfolding minus
-returns c = sym (ap (λ (n : ℕ). minus n (single (trailingZeros 64 n))) (c .if1 .taken))
+returns c = sym (ap (λ (n : ℕ). minus n (single (trailingZeros wordBits n))) (c .if1 .taken))
 
 sub-result : tie.Need-sub-result
 sub-result c = search needs
 
 returns-2 : tie.Need-returns-2
-returns-2 c = rest-is 64 (c .before .args .set) (c .before .fits .set .fits) (c .if1 .left)
+returns-2 c = rest-is wordBits (c .before .args .set) (c .before .fits .set .fits) (c .if1 .left)
 
 pub rest-spec : {M : Type 1} → statement M
 rest-spec = tie.close (tie.spec returns sub-result returns-2)

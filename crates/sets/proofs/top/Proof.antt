@@ -2,14 +2,15 @@
 use native.Mathlib.Omega.{arith}
 use lib.Count.{leading-le}
 use borrow.Author.Needs.{needs}
+use Rattle.sets.specs.Limits.{wordBits}
 use Rattle.sets.proofs.top.Statement.{statement}
 use Rattle.sets.proofs.top.Tie as tie
 
 cast-result : tie.Need-cast-result
-cast-result c = record { fits = omega (arith, leading-le 64 (c .args .set)) }
+cast-result c = record { fits = omega (arith, leading-le wordBits (c .args .set)) }
 
 sub-result : tie.Need-sub-result
-sub-result c = omega (arith, leading-le 64 (c .args .set))
+sub-result c = omega (arith, leading-le wordBits (c .args .set))
 
 returns : tie.Need-returns
 returns c = search needs

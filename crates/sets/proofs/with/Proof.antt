@@ -6,6 +6,7 @@ use native.Mathlib.Omega.{arith}
 use lib.Bits.{bitOr}
 use lib.Pow.{shl-exact}
 use borrow.Author.Needs.{needs}
+use Rattle.sets.specs.Limits.{wordBits}
 use Rattle.sets.proofs.with.Statement.{statement}
 use Rattle.sets.proofs.with.Tie as tie
 
@@ -13,7 +14,7 @@ shl-result : tie.Need-shl-result
 shl-result c = search needs
 
 returns : tie.Need-returns
-returns c = ap (bitOr (c .args .set)) (shl-exact 1 (c .args .v) 64 (omega arith) (omega arith) ∙ one-mul (2 ^ c .args .v))
+returns c = ap (bitOr (c .args .set)) (shl-exact 1 (c .args .v) wordBits (omega arith) (omega arith) ∙ one-mul (2 ^ c .args .v))
 
 pub with-spec : {M : Type 1} → statement M
 with-spec = tie.close (tie.spec shl-result returns)
