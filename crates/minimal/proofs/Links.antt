@@ -8,6 +8,7 @@ use native.Mathlib.Omega.{arith}
 use lib.Bits.{bitOr}
 use lib.Count.{ones}
 use lib.ListN.{length, set, length-set, replicate, getD-replicate}
+use Rattle.sets.specs.Limits.{wordBits}
 use Rattle.sets.specs.Sets.{has, single}
 use Rattle.sets.proofs.Values.{with-old, with-new, with-cases}
 use Rattle.sets.proofs.ValuesBelow.{less-has, has-less}
@@ -17,10 +18,10 @@ use Rattle.minimal.specs.Marking.{Candidate, InChain, FirstFrom, Past, C
 
 -- ---- the start
 
-pub heads-past : (rows : List ℕ) → length rows ≤ 320 → Past rows (replicate 65 320)
-heads-past rows l k h = omega (arith, getD-replicate 65 k 320 zero h)
+pub heads-past : (rows : List ℕ) → Past rows (replicate (wordBits + 1) (length rows))
+heads-past rows k h = omega (arith, getD-replicate (wordBits + 1) k (length rows) zero (omega arith))
 
-pub chains-start : (rows next head : List ℕ) → length rows ≤ length next → length head ≡ 65 → Past rows head → Chains rows next head (length rows)
+pub chains-start : (rows next head : List ℕ) → length rows ≤ length next → length head ≡ wordBits + 1 → Past rows head → Chains rows next head (length rows)
 chains-start rows next head l w past = record {
   long = l;
   wide = w;
@@ -66,9 +67,9 @@ module _ (rows : List ℕ) (t u : ℕ) (e : t ≡ u + 1) where
     ];
   }
 
-  pub sizes-more : (sizes : ℕ) → ones (at rows u) - 1 < 64 → Sizes rows t sizes → Sizes rows u (bitOr sizes (single (ones (at rows u) - 1)))
+  pub sizes-more : (sizes : ℕ) → ones (at rows u) - 1 < wordBits → Sizes rows t sizes → Sizes rows u (bitOr sizes (single (ones (at rows u) - 1)))
   sizes-more sizes small S = record {
-    word = less-has 64 (bitOr sizes (single (ones (at rows u) - 1))) (λ v h. elim (with-cases sizes (ones (at rows u) - 1) v h) [ inl q ↦ omega (arith, q, small) | inr o ↦ has-less 64 sizes v (S .word) o ]);
+    word = less-has wordBits (bitOr sizes (single (ones (at rows u) - 1))) (λ v h. elim (with-cases sizes (ones (at rows u) - 1) v h) [ inl q ↦ omega (arith, q, small) | inr o ↦ has-less wordBits sizes v (S .word) o ]);
     all = λ j a b c. elim (ℕ-discrete j u) [
       | yes q ↦ ap (λ (x : ℕ). has (bitOr sizes (single (ones (at rows u) - 1))) (ones (at rows x) - 1)) q ∙ with-new sizes (ones (at rows u) - 1)
       | no ne ↦ with-old sizes (ones (at rows u) - 1) (ones (at rows j) - 1) (S .all j (omega arith) b c)
@@ -76,7 +77,7 @@ module _ (rows : List ℕ) (t u : ℕ) (e : t ≡ u + 1) where
   }
 
   -- row u is a candidate
-  module _ (next head : List ℕ) (C : Chains rows next head t) (h : u < length rows) (judge : Candidate rows u) (few : ones (at rows u) < 65) where
+  module _ (next head : List ℕ) (C : Chains rows next head t) (h : u < length rows) (judge : Candidate rows u) (few : ones (at rows u) ≤ wordBits) where
     abbrev n : ℕ
     n = ones (at rows u)
 

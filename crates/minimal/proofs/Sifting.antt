@@ -10,6 +10,7 @@ use native.Mathlib.Omega.{arith}
 use lib.Count.{ones, trailingZeros}
 use lib.ListN.{length, set, length-set}
 use lib.Seq.{ext-getD, getD-set-other}
+use Rattle.sets.specs.Limits.{wordBits}
 use Rattle.sets.specs.Sets.{has, single, subset, proper, minus}
 use Rattle.sets.proofs.Bools.{true-or-false, not-both, is-false}
 use Rattle.sets.proofs.Extremes.{lowest-has, lowest-least}
@@ -178,7 +179,7 @@ pub record Walk (rows : List ℕ) (keep : List Bool) (mins : List ℕ) (found k 
 walk-from : {rows : List ℕ} {keep : List Bool} {mins : List ℕ} {found k i x : ℕ} → FirstFrom rows k i x → Sieve rows keep mins found k i → Walk rows keep mins found k x
 walk-from F S = record { sieve = sieve-jump F S; hit = F .hit }
 
-pub walk-start : {rows next head : List ℕ} {keep : List Bool} {mins : List ℕ} {found k : ℕ} → Chains rows next head zero → k < 65 → Sieve rows keep mins found k zero → Walk rows keep mins found k (at head k)
+pub walk-start : {rows next head : List ℕ} {keep : List Bool} {mins : List ℕ} {found k : ℕ} → Chains rows next head zero → k ≤ wordBits → Sieve rows keep mins found k zero → Walk rows keep mins found k (at head k)
 walk-start {k = k} C h S = walk-from (C .heads k h) S
 
 module _ {rows next head : List ℕ} (C : Chains rows next head zero) {keep : List Bool} {mins : List ℕ} {found k i : ℕ} (W : Walk rows keep mins found k i) (h : i < length rows) where
@@ -203,7 +204,7 @@ module _ {rows next head : List ℕ} (C : Chains rows next head zero) {keep : Li
 pub record Levels (rows : List ℕ) (keep : List Bool) (mins : List ℕ) (found left : ℕ) : Type 0 where
   pub k : ℕ
   pub sieve : Sieve rows keep mins found k zero
-  pub word : left < 2 ^ 64
+  pub word : left < 2 ^ wordBits
   pub rest : (j : ℕ) → j < length rows → Candidate rows j → (ones (at rows j) < k) ⊎ (has left (ones (at rows j) - 1) ≡ true)
   pub far : (v : ℕ) → has left v ≡ true → k ≤ v + 1
 
@@ -230,17 +231,17 @@ module _ {rows : List ℕ} {keep : List Bool} {mins : List ℕ} {found left : �
           L .sieve .marks .right j n (λ c. elim (L .rest j n c) [ inl h ↦ inl h | inr h ↦ absurd (not-both h (ap (λ (x : ℕ). has x (ones (at rows j) - 1)) z ∙ has-empty (ones (at rows j) - 1))) ])
 
   -- v is the lowest size left
-  module _ (full : NoneEmpty rows) {v : ℕ} (is : v ≡ trailingZeros 64 left) (ne : left ≢ zero) where
-    lowest : (v < 64) × (has left v ≡ true)
-    lowest = subst (λ (x : ℕ). (x < 64) × (has left x ≡ true)) (sym is) (lowest-has 64 left (L .word) ne)
+  module _ (full : NoneEmpty rows) {v : ℕ} (is : v ≡ trailingZeros wordBits left) (ne : left ≢ zero) where
+    lowest : (v < wordBits) × (has left v ≡ true)
+    lowest = subst (λ (x : ℕ). (x < wordBits) × (has left x ≡ true)) (sym is) (lowest-has wordBits left (L .word) ne)
 
     least : (u : ℕ) → has left u ≡ true → v ≤ u
-    least u h = omega (arith, is, lowest-least 64 left u h)
+    least u h = omega (arith, is, lowest-least wordBits left u h)
 
-    pub level-small : v + 1 < 65
+    pub level-small : v + 1 ≤ wordBits
     level-small = omega (arith, lowest .0)
 
-    pub level-less : (rest : ℕ) → rest ≡ minus left (single (trailingZeros 64 left)) → rest < left
+    pub level-less : (rest : ℕ) → rest ≡ minus left (single (trailingZeros wordBits left)) → rest < left
     level-less rest e = omega (arith, e ∙ ap (λ (x : ℕ). minus left (single x)) (sym is), without-less left v (lowest .1))
 
     -- its rows are next
@@ -256,11 +257,11 @@ module _ {rows : List ℕ} {keep : List Bool} {mins : List ℕ} {found left : �
         back j l c (inl h) = elim (L .rest j l c) [ inl b ↦ inl b | inr t ↦ absurd (omega (arith, h, least (ones (at rows j) - 1) t, some-ones (at rows j) (full j l))) ]
 
     -- and then judged
-    pub level-judged : {keep′ : List Bool} {mins′ : List ℕ} {found′ : ℕ} (rest : ℕ) → rest ≡ minus left (single (trailingZeros 64 left)) → Sieve rows keep′ mins′ found′ (v + 1 + 1) zero → Levels rows keep′ mins′ found′ rest
+    pub level-judged : {keep′ : List Bool} {mins′ : List ℕ} {found′ : ℕ} (rest : ℕ) → rest ≡ minus left (single (trailingZeros wordBits left)) → Sieve rows keep′ mins′ found′ (v + 1 + 1) zero → Levels rows keep′ mins′ found′ rest
     level-judged {keep′} {mins′} {found′} rest e S = subst (Levels rows keep′ mins′ found′) (sym (e ∙ ap (λ (x : ℕ). minus left (single x)) (sym is))) (record {
       k = v + 1 + 1;
       sieve = S;
-      word = minus-word 64 left (single v) (L .word);
+      word = minus-word wordBits left (single v) (L .word);
       rest = λ j l c. elim (L .rest j l c) [
         | inl h ↦ inl (omega (arith, h, L .far v (lowest .1)))
         | inr h ↦ elim (true-or-false (has (single v) (ones (at rows j) - 1))) [

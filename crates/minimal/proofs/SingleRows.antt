@@ -13,6 +13,7 @@ use lib.Dec.{eqb}
 use lib.ListN.{length, set, length-set}
 use lib.Seq.{getD-set-other}
 use borrow.Author.Tests.{eqb-true, eqb-false}
+use Rattle.sets.specs.Limits.{wordBits}
 use Rattle.sets.specs.Sets.{has, single, subset}
 use Rattle.sets.proofs.Bools.{not-both, is-false, or-right}
 use Rattle.sets.proofs.Values.{has-empty, has-or, has-same, with-old, with-cases}
@@ -53,9 +54,9 @@ within-single a v ne e = subset-antisym a (single v) e (has-subset (single v) a 
 
 -- ---- whether a row has one value
 
-module _ (x : ℕ) (h : x < 2 ^ 64) (ne : x ≢ zero) (v : ℕ) (e : v ≡ trailingZeros 64 x) where
-  pub lowest-less : v < 64
-  lowest-less = omega (arith, lowest-has 64 x h ne .0)
+module _ (x : ℕ) (h : x < 2 ^ wordBits) (ne : x ≢ zero) (v : ℕ) (e : v ≡ trailingZeros wordBits x) where
+  pub lowest-less : v < wordBits
+  lowest-less = omega (arith, lowest-has wordBits x h ne .0)
 
   pub one-value : (s : ℕ) → s ≡ bitOr zero (single v) → IsSingle (eqb x s) x
   one-value s q = record {
@@ -67,7 +68,7 @@ module _ (x : ℕ) (h : x < 2 ^ 64) (ne : x ≢ zero) (v : ℕ) (e : v ≡ trail
       is = q ∙ or-zero-l (single v)
 
       there : has x v ≡ true
-      there = ap (has x) e ∙ lowest-has 64 x h ne .1
+      there = ap (has x) e ∙ lowest-has wordBits x h ne .1
 
 -- ---- one row
 

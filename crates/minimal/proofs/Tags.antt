@@ -9,48 +9,49 @@ use native.Mathlib.Omega.{arith}
 use lib.Bits.{bitOr}
 use lib.Count.{ones}
 use lib.ListN.{length, set, length-set}
+use Rattle.sets.specs.Limits.{wordBits}
 use Rattle.sets.specs.Sets.{has, single, subset, proper}
 use Rattle.sets.proofs.Bools.{true-or-false, not-both}
 use Rattle.sets.proofs.Values.{with-old, with-new}
 use Rattle.sets.proofs.Subsets.{subset-same}
 use Rattle.theory.specs.Pairings.{at}
 use Rattle.theory.proofs.Places.{stored, at-same, at-other}
-use Rattle.minimal.specs.Marking.{Scanned, tagOf, hasTag, withTag, ToTest}
+use Rattle.minimal.specs.Marking.{Scanned, tagWords, mostTags, tagOf, hasTag, withTag, ToTest}
 use Rattle.minimal.proofs.Counts.{proper-fewer}
 
 -- the rows found from `base` on have k values, and their tags are among the tags
 pub record Tagged (mins : List ℕ) (base found k : ℕ) (tags : List ℕ) : Type 0 where
-  pub wide : length tags ≡ 8
+  pub wide : length tags ≡ tagWords
   pub least : base ≤ found
   pub same : (m : ℕ) → base ≤ m → m < found → (ones (at mins m) ≡ k) × (hasTag tags (tagOf (at mins m)) ≡ true)
 
-pub tag-small : (x : ℕ) → tagOf x < 512
+pub tag-small : (x : ℕ) → tagOf x < mostTags
 unfolding tagOf
 tag-small x = omega arith
 
 -- ---- one tag more
 
-module _ (tags : List ℕ) (t : ℕ) (h : t / 64 < length tags) where
+module _ (tags : List ℕ) (t : ℕ) (h : t / wordBits < length tags) where
   tag-new : hasTag (withTag tags t) t ≡ true
-  tag-new = ap (λ (x : ℕ). has x (t % 64)) (at-same tags (t / 64) (bitOr (at tags (t / 64)) (single (t % 64))) h) ∙ with-new (at tags (t / 64)) (t % 64)
+  tag-new = ap (λ (x : ℕ). has x (t % wordBits)) (at-same tags (t / wordBits) (bitOr (at tags (t / wordBits)) (single (t % wordBits))) h) ∙ with-new (at tags (t / wordBits)) (t % wordBits)
 
   tag-old : (u : ℕ) → hasTag tags u ≡ true → hasTag (withTag tags t) u ≡ true
-  tag-old u e = elim (stored tags (t / 64) (bitOr (at tags (t / 64)) (single (t % 64))) (u / 64) h) [
-    | inl s ↦ ap (λ (x : ℕ). has x (u % 64)) (s .1) ∙ with-old (at tags (t / 64)) (t % 64) (u % 64) (ap (λ (x : ℕ). has (at tags x) (u % 64)) (sym (s .0)) ∙ e)
-    | inr s ↦ ap (λ (x : ℕ). has x (u % 64)) (s .1) ∙ e
+  tag-old u e = elim (stored tags (t / wordBits) (bitOr (at tags (t / wordBits)) (single (t % wordBits))) (u / wordBits) h) [
+    | inl s ↦ ap (λ (x : ℕ). has x (u % wordBits)) (s .1) ∙ with-old (at tags (t / wordBits)) (t % wordBits) (u % wordBits) (ap (λ (x : ℕ). has (at tags x) (u % wordBits)) (sym (s .0)) ∙ e)
+    | inr s ↦ ap (λ (x : ℕ). has x (u % wordBits)) (s .1) ∙ e
   ]
 
 -- ---- the rows found
 
-pub tagged-start : (mins : List ℕ) (found k : ℕ) (tags : List ℕ) → length tags ≡ 8 → Tagged mins found found k tags
+pub tagged-start : (mins : List ℕ) (found k : ℕ) (tags : List ℕ) → length tags ≡ tagWords → Tagged mins found found k tags
 tagged-start mins found k tags wide = record { wide = wide; least = omega arith; same = λ m a b. absurd (omega arith) }
 
 module _ {mins : List ℕ} {base found k : ℕ} {tags : List ℕ} (T : Tagged mins base found k tags) (x : ℕ) (c : ones x ≡ k) where
   -- x is found
   pub tagged-more : found < length mins → Tagged (set mins found x) base (found + 1) k (withTag tags (tagOf x))
-  tagged-more h = record { wide = length-set tags (tagOf x / 64) (bitOr (at tags (tagOf x / 64)) (single (tagOf x % 64))) ∙ T .wide; least = omega (arith, T .least); same = λ m a b. elim (ℕ-discrete m found) [ yes e ↦ new m e | no ne ↦ old m a ne b ] }
+  tagged-more h = record { wide = length-set tags (tagOf x / wordBits) (bitOr (at tags (tagOf x / wordBits)) (single (tagOf x % wordBits))) ∙ T .wide; least = omega (arith, T .least); same = λ m a b. elim (ℕ-discrete m found) [ yes e ↦ new m e | no ne ↦ old m a ne b ] }
     where
-      inside : tagOf x / 64 < length tags
+      inside : tagOf x / wordBits < length tags
       inside = omega (arith, tag-small x, T .wide)
 
       new : (m : ℕ) → m ≡ found → (ones (at (set mins found x) m) ≡ k) × (hasTag (withTag tags (tagOf x)) (tagOf (at (set mins found x) m)) ≡ true)

@@ -1,6 +1,6 @@
 -- What the contracts say while the minimal rows of a view are marked: which values are rows of their own, how the other rows are chained,
 -- and which rows are judged. The marks they come to are `firsts` (document 01, 'Which rows DISTINCT keeps').
-use Prim.Native.Nat.{ℕ, zero, suc, _+_, _-_, _/_, _%_, _^_, _≤_, _<_}
+use Prim.Native.Nat.{ℕ, zero, suc, _+_, _-_, _*_, _/_, _%_, _^_, _≤_, _<_}
 use mathlib.Core.Path.{_≡_}
 use mathlib.Core.Logic.{_≢_, _⊎_}
 use mathlib.Core.Bool.{Bool, true, false}
@@ -8,6 +8,7 @@ use mathlib.Core.List.{List}
 use lib.Bits.{bitOr}
 use lib.Count.{ones}
 use lib.ListN.{length, set}
+use Rattle.sets.specs.Limits.{wordBits}
 use Rattle.sets.specs.Sets.{has, single, subset}
 use Rattle.theory.specs.Pairings.{at}
 use Rattle.theory.specs.Kept.{marked, pick, firsts}
@@ -73,17 +74,24 @@ pub record Scanned (r : Bool) (mins : List ℕ) (found x : ℕ) : Type 0 where
   pub none : r ≡ true → NoneWithin mins found x
   pub some : r ≡ false → SomeWithin mins found x
 
--- a number below 512 that goes by the row alone
+-- the words that the tags fill, and how many tags there is room for: a bit for each (no limits of the request)
+abbrev pub tagWords : ℕ
+tagWords = 8
+
+abbrev pub mostTags : ℕ
+mostTags = tagWords * wordBits
+
+-- a number below `mostTags` that goes by the row alone
 unfoldable pub tagOf : ℕ → ℕ
 tagOf x = x % 509
 
--- the tag t is in a set of tags, of which each word holds 64
+-- the tag t is in a set of tags
 abbrev pub hasTag : List ℕ → ℕ → Bool
-hasTag tags t = has (at tags (t / 64)) (t % 64)
+hasTag tags t = has (at tags (t / wordBits)) (t % wordBits)
 
 -- the set of tags with t put in
 abbrev pub withTag : List ℕ → ℕ → List ℕ
-withTag tags t = set tags (t / 64) (bitOr (at tags (t / 64)) (single (t % 64)))
+withTag tags t = set tags (t / wordBits) (bitOr (at tags (t / wordBits)) (single (t % wordBits)))
 
 -- r of the rows found so far are to be tested: all, or those before `base` where the tag t is not among the tags of the others
 abbrev pub ToTest : ℕ → ℕ → List ℕ → ℕ → ℕ → Type 0
@@ -110,16 +118,16 @@ pub record FirstFrom (rows : List ℕ) (k i x : ℕ) : Type 0 where
 
 -- no chain has begun
 abbrev pub Past : List ℕ → List ℕ → Type 0
-Past rows head = (k : ℕ) → k < 65 → length rows ≤ at head k
+Past rows head = (k : ℕ) → k ≤ wordBits → length rows ≤ at head k
 
--- head and next lead through the rows of each chain from place t on
+-- head and next lead through the rows of each chain from place t on; a row has no more values than a word has bits
 pub record Chains (rows next head : List ℕ) (t : ℕ) : Type 0 where
   pub long : length rows ≤ length next
-  pub wide : length head ≡ 65
-  pub heads : (k : ℕ) → k < 65 → FirstFrom rows k t (at head k)
+  pub wide : length head ≡ wordBits + 1
+  pub heads : (k : ℕ) → k ≤ wordBits → FirstFrom rows k t (at head k)
   pub links : (i : ℕ) → t ≤ i → i < length rows → Candidate rows i → FirstFrom rows (ones (at rows i)) (i + 1) (at next i)
 
 -- s has, for each candidate from place t on, one less than the number of its values
 pub record Sizes (rows : List ℕ) (t s : ℕ) : Type 0 where
-  pub word : s < 2 ^ 64
+  pub word : s < 2 ^ wordBits
   pub all : (j : ℕ) → t ≤ j → j < length rows → Candidate rows j → has s (ones (at rows j) - 1) ≡ true

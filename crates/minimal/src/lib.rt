@@ -6,8 +6,15 @@ ghost use mathlib.Core.Logic.{_≢_};
 ghost use mathlib.Core.Bool.{true, false};
 ghost use Prim.Native.Nat.{zero, _+_, _≤_, _<_};
 ghost use lib.ListN.{length};
+ghost use Rattle.sets.specs.Limits.{mostInView, wordBits};
 ghost use Rattle.theory.specs.Kept.{firsts};
-ghost use Rattle.minimal.specs.Marking.{NoMarks, NoneEmpty, IsSingle, Singles, Marks, Scanned, tagOf, hasTag, withTag, ToTest, Repeats, Past, Chains, Sizes, Sieve};
+ghost use Rattle.minimal.specs.Marking.{NoMarks, NoneEmpty, IsSingle, Singles, Marks, Scanned, tagWords, mostTags, tagOf, hasTag, withTag, ToTest, Repeats, Past, Chains, Sizes, Sieve};
+
+// How many sizes a row can have: from 0 values to all the bits of a word.
+const SIZES: usize = sets::BITS + 1;
+
+// The words that the tags fill, a bit for each tag. (No limit of the request.)
+const TAG_WORDS: usize = 8;
 
 // The row has one value.
 fn is_single(x: u64) -> bool
@@ -43,7 +50,7 @@ fn none_within(mins: &[u64], found: usize, x: u64) -> bool
     requires { ⌜ found ≤ length (now mins) ⌝ }
     ensures { λ r. ⌜ Scanned r (now (mins .entry)) found x ⌝ }
 {
-    let others = sets::minus(sets::all(64), x);
+    let others = sets::minus(sets::all(sets::BITS), x);
     let mut next: usize = 0;
     while 4 <= found - next {
         let a = mins[next] & others;
@@ -64,34 +71,35 @@ fn none_within(mins: &[u64], found: usize, x: u64) -> bool
     true
 }
 
-// A number below 512 that goes by the row alone: rows with different tags are different. 509 is a prime, so that rows that differ mostly have different tags.
+// A number that goes by the row alone: rows with different tags are different. 509 is the last prime below the bits of `TAG_WORDS` words,
+// and a prime so that rows that differ mostly have different tags.
 fn tag(x: u64) -> usize
     ensures { λ r. ⌜ r ≡ tagOf x ⌝ }
 {
     (x % 509) as usize
 }
 
-// The tag t is among the tags, which are a set of 64 to a word.
+// The tag t is among the tags, of which each word has as many as it has bits.
 fn has_tag(tags: &[u64], t: usize) -> bool
-    requires { ⌜ (t < 512) × (length (now tags) ≡ 8) ⌝ }
+    requires { ⌜ (t < mostTags) × (length (now tags) ≡ tagWords) ⌝ }
     ensures { λ r. ⌜ r ≡ hasTag (now (tags .entry)) t ⌝ }
 {
-    sets::has(tags[t / 64], t % 64)
+    sets::has(tags[t / sets::BITS], t % sets::BITS)
 }
 
 // Puts the tag t among the tags.
 fn add_tag(tags: &mut [u64], t: usize)
-    requires { ⌜ (t < 512) × (length (now tags) ≡ 8) ⌝ }
+    requires { ⌜ (t < mostTags) × (length (now tags) ≡ tagWords) ⌝ }
     ensures { λ _. ⌜ now (tags .exit) ≡ withTag (now (tags .entry)) t ⌝ }
 {
-    let word = t / 64;
-    tags[word] = sets::with(tags[word], t % 64);
+    let word = t / sets::BITS;
+    tags[word] = sets::with(tags[word], t % sets::BITS);
 }
 
 // How many of the minimal rows found so far have to be tested against a row with the tag t. Those from `base` on have as many values as the row:
 // one of them is a subset only where it is equal, and where the tag is not among theirs none is.
 fn to_test(base: usize, found: usize, tags: &[u64], t: usize) -> usize
-    requires { ⌜ (t < 512) × (length (now tags) ≡ 8) ⌝ }
+    requires { ⌜ (t < mostTags) × (length (now tags) ≡ tagWords) ⌝ }
     ensures { λ r. ⌜ ToTest base found (now (tags .entry)) t r ⌝ }
 {
     if has_tag(tags, t) {
@@ -115,8 +123,8 @@ fn repeats(rows: &[u64], i: usize) -> bool
 // head[k] is the first place with k values, next[i] the next one after i with as many; a number past the view where there is none.
 // Answers how many values the chained rows have: the set has k - 1 where there are rows of k values.
 fn chain(rows: &[u64], singles: u64, next: &mut [usize], head: &mut [u16]) -> u64
-    requires { ⌜ (length (now rows) ≤ 320) × NoneEmpty (now rows) × Singles (now rows) (length (now rows)) singles ⌝ }
-    requires { ⌜ (length (now rows) ≤ length (now next)) × (length (now head) ≡ 65) × Past (now rows) (now head) ⌝ }
+    requires { ⌜ (length (now rows) ≤ mostInView) × NoneEmpty (now rows) × Singles (now rows) (length (now rows)) singles ⌝ }
+    requires { ⌜ (length (now rows) ≤ length (now next)) × (length (now head) ≡ wordBits + 1) × Past (now rows) (now head) ⌝ }
     ensures { λ r. ⌜ Chains (now (rows .entry)) (now (next .exit)) (now (head .exit)) 0 × Sizes (now (rows .entry)) 0 r ⌝ }
 {
     let mut sizes: u64 = 0;
@@ -146,12 +154,12 @@ fn level(
     mins: &mut [u64],
     mut found: usize,
 ) -> usize
-    requires { ⌜ (k < 65) × (length (now rows) ≤ length (now mins)) × Chains (now rows) (now next) (now head) 0 ⌝ }
+    requires { ⌜ (k ≤ wordBits) × (length (now rows) ≤ length (now mins)) × Chains (now rows) (now next) (now head) 0 ⌝ }
     requires { ⌜ Sieve (now rows) (now keep) (now mins) found k 0 ⌝ }
     ensures { λ r. ⌜ Sieve (now (rows .entry)) (now (keep .exit)) (now (mins .exit)) r (k + 1) 0 ⌝ }
 {
     let base = found;
-    let mut tags = [0u64; 8];
+    let mut tags = [0u64; TAG_WORDS];
     let mut place = head[k] as usize;
     while place < rows.len() {
         let i = place;
@@ -170,11 +178,11 @@ fn level(
 
 // Judges the rows that have no value of `singles`, few values first. `next` and `mins` are scratch places.
 fn sift(rows: &[u64], singles: u64, keep: &mut [bool], next: &mut [usize], mins: &mut [u64])
-    requires { ⌜ (length (now rows) ≤ 320) × NoneEmpty (now rows) × Singles (now rows) (length (now rows)) singles × Marks (now rows) (now keep) 0 0 ⌝ }
+    requires { ⌜ (length (now rows) ≤ mostInView) × NoneEmpty (now rows) × Singles (now rows) (length (now rows)) singles × Marks (now rows) (now keep) 0 0 ⌝ }
     requires { ⌜ (length (now rows) ≤ length (now next)) × (length (now rows) ≤ length (now mins)) ⌝ }
     ensures { λ _. ⌜ now (keep .exit) ≡ firsts (now (rows .entry)) ⌝ }
 {
-    let mut head = [320u16; 65];
+    let mut head = [rows.len() as u16; SIZES];
     let mut left = chain(rows, singles, next, &mut head);
     let mut found: usize = 0;
     while left != 0 {
@@ -186,7 +194,7 @@ fn sift(rows: &[u64], singles: u64, keep: &mut [bool], next: &mut [usize], mins:
 
 // Marks the minimal rows, of equal ones the first. `next` and `mins` are scratch places.
 pub fn mark_minimal(rows: &[u64], keep: &mut [bool], next: &mut [usize], mins: &mut [u64])
-    requires { ⌜ (length (now rows) ≤ 320) × (length (now keep) ≡ length (now rows)) × NoMarks (now keep) × NoneEmpty (now rows) ⌝ }
+    requires { ⌜ (length (now rows) ≤ mostInView) × (length (now keep) ≡ length (now rows)) × NoMarks (now keep) × NoneEmpty (now rows) ⌝ }
     requires { ⌜ (length (now rows) ≤ length (now next)) × (length (now rows) ≤ length (now mins)) ⌝ }
     ensures { λ _. ⌜ now (keep .exit) ≡ firsts (now (rows .entry)) ⌝ }
 {

@@ -3,6 +3,7 @@ use Prim.Native.Nat.{_/_}
 use mathlib.Core.Path.{ap}
 use lib.ListN.{set}
 use borrow.Author.Needs.{needs}
+use Rattle.sets.specs.Limits.{wordBits}
 use Rattle.minimal.proofs.add_tag.Statement.{statement}
 use Rattle.minimal.proofs.add_tag.Tie as tie
 use Rattle.minimal.proofs.add_tag.Reads as reads
@@ -28,7 +29,7 @@ same-length : tie.Need-same-length
 same-length c = search needs
 
 returns : tie.Need-returns
-returns c = let e = c .before .before .before in ap (set (e .args .tags .now) (e .args .t / 64)) (c .with .ensures)
+returns c = let e = c .before .before .before in ap (set (e .args .tags .now) (e .args .t / wordBits)) (c .with .ensures)
 
 pub add-tag-spec : {M : Type 1} → statement M
 add-tag-spec =

@@ -6,6 +6,7 @@ use lib.Count.{ones, ones-le}
 use lib.ListN.{length, length-set}
 use borrow.Author.Needs.{needs}
 use borrow.Author.Tests.{not-true, not-false}
+use Rattle.sets.specs.Limits.{wordBits}
 use Rattle.theory.specs.Pairings.{at}
 use Rattle.minimal.specs.Marking.{Chains, Sizes, Candidate}
 use Rattle.minimal.proofs.Apart.{apart-clear, common-not-clear}
@@ -24,9 +25,9 @@ Inv-loop rows singles next₀ head₀ sizes₀ left₀ next head sizes left = Ch
 abbrev μ-loop : tie.MeasureT-loop
 μ-loop rows singles next₀ head₀ sizes₀ left₀ next head sizes left = left
 
--- the row has at most 64 values
-few : (c : tie.After-shared-slice-known2 Inv-loop μ-loop) → ones (at (c .before .before .before .before .before .before .args .rows .now) (c .before .before .loop .left - 1)) ≤ 64
-few c = let l = c .before .before in ones-le 64 (at (c .before .before .before .before .before .before .args .rows .now) (l .loop .left - 1)) (c .shared-slice-known2 .given (l .loop .left - 1) .fits)
+-- the row has no more values than a word has bits
+few : (c : tie.After-shared-slice-known2 Inv-loop μ-loop) → ones (at (c .before .before .before .before .before .before .args .rows .now) (c .before .before .loop .left - 1)) ≤ wordBits
+few c = let l = c .before .before in ones-le wordBits (at (c .before .before .before .before .before .before .args .rows .now) (l .loop .left - 1)) (c .shared-slice-known2 .given (l .loop .left - 1) .fits)
 
 -- and at least one
 some : (c : tie.After-shared-slice-known2 Inv-loop μ-loop) → zero < ones (at (c .before .before .before .before .before .before .args .rows .now) (c .before .before .loop .left - 1))

@@ -6,7 +6,7 @@ use native.Mathlib.Omega.{arith}
 use lib.ListN.{length, set, length-set, replicate}
 use borrow.Author.Needs.{needs}
 use Rattle.theory.specs.Pairings.{at}
-use Rattle.minimal.specs.Marking.{withTag, ToTest}
+use Rattle.minimal.specs.Marking.{tagWords, withTag, ToTest}
 use Rattle.minimal.proofs.Sifting.{Walk, walk-start, walk-on, walk-room, walk-miss, walk-hit, sieve-next}
 use Rattle.minimal.proofs.Counts.{marked-most}
 use Rattle.minimal.proofs.Tags.{Tagged, tagged-start, tagged-more, tested, tag-small}
@@ -43,7 +43,7 @@ cast-place : tie.Need-cast-place Inv-loop μ-loop
 cast-place c = let e = c .before .before .before .before .before .before in record { fits = omega (arith, c .shared-slice-known4 .given (e .args .k) .fits) }
 
 loop-holds : tie.Need-loop-holds Inv-loop μ-loop
-loop-holds c = let e = c .before .before .before .before .before .before in (walk-start (e .pre .0 .2) (e .pre .0 .0) (e .pre .1), tagged-start (e .args .mins .now) (e .args .found) (e .args .k) (replicate 8 0) refl, refl)
+loop-holds c = let e = c .before .before .before .before .before .before in (walk-start (e .pre .0 .2) (e .pre .0 .0) (e .pre .1), tagged-start (e .args .mins .now) (e .args .found) (e .args .k) (replicate tagWords 0) refl, refl)
 
 mul-place-2 : tie.Need-mul-place-2 Inv-loop μ-loop
 mul-place-2 c = search needs

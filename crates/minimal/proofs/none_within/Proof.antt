@@ -3,6 +3,7 @@ use Prim.Native.Nat.{_-_, _≤_}
 use native.Mathlib.Nat.{not-suc-le-zero}
 use native.Mathlib.Omega.{arith}
 use borrow.Author.Needs.{needs}
+use Rattle.sets.specs.Limits.{wordBits}
 use Rattle.minimal.specs.Marking.{NoneWithin}
 use Rattle.minimal.proofs.Scans.{Tells, tells, scan-some, scan-more, scan-none, four-some, four-none}
 use Rattle.minimal.proofs.none_within.Statement.{statement}
@@ -33,7 +34,7 @@ minus-requires c κs = tt
 loop-holds : tie.Need-loop-holds Inv-loop μ-loop Inv-loop2 μ-loop2
 loop-holds c =
     let e = c .before .before .before in
-    (omega arith, tells 64 (e .args .mins .now) (c .before .all .result) (c .minus .result) (e .args .x) (λ m l. c .before .before .shared-slice-known .given m .fits) (c .before .all .ensures) (c .minus .ensures), λ m h. absurd (not-suc-le-zero h))
+    (omega arith, tells wordBits (e .args .mins .now) (c .before .all .result) (c .minus .result) (e .args .x) (λ m l. c .before .before .shared-slice-known .given m .fits) (c .before .all .ensures) (c .minus .ensures), λ m h. absurd (not-suc-le-zero h))
 
 sub-loop : tie.Need-sub-loop Inv-loop μ-loop Inv-loop2 μ-loop2
 sub-loop c = search needs

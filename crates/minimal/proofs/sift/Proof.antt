@@ -20,11 +20,14 @@ Inv-loop rows singles keep₀ next mins₀ head left₀ found₀ keep mins left 
 abbrev μ-loop : tie.MeasureT-loop
 μ-loop rows singles keep₀ next mins₀ head left₀ found₀ keep mins left found = left
 
+cast-head : tie.Need-cast-head Inv-loop μ-loop
+cast-head c = search needs
+
 slice-aggregate-chain : tie.Need-slice-aggregate-chain Inv-loop μ-loop
 slice-aggregate-chain c = search needs
 
 chain-requires : tie.Need-chain-requires Inv-loop μ-loop
-chain-requires c κs = let e = c .before .before .before .before .before .before in ((e .pre .0 .0, e .pre .0 .1, e .pre .0 .2), (e .pre .1 .0, refl, heads-past (e .args .rows .now) (e .pre .0 .0)))
+chain-requires c κs = let e = c .before .before .before .before .before .before in ((e .pre .0 .0, e .pre .0 .1, e .pre .0 .2), (e .pre .1 .0, refl, heads-past (e .args .rows .now)))
 
 loop-holds : tie.Need-loop-holds Inv-loop μ-loop
 loop-holds c =
@@ -90,6 +93,7 @@ sift-spec =
     (tie.spec
     Inv-loop
     μ-loop
+    cast-head
     slice-aggregate-chain
     chain-requires
     loop-holds
