@@ -13,6 +13,7 @@ use lib.Count.{leadingZeros}
 use lib.ListN.{length, set}
 use lib.Seq.{set-set, set-getD}
 use borrow.Author.Tests.{eqb-true}
+use Rattle.sets.specs.Limits.{mostValues, wordBits}
 use Rattle.sets.specs.Sets.{has, single, minus}
 use Rattle.sets.proofs.Bools.{true-or-false, not-both, is-false}
 use Rattle.sets.proofs.Values.{with-old, with-new, with-cases, minus-in, minus-out, minus-none, has-single}
@@ -60,7 +61,7 @@ unasked-falls (suc n) a b i h f t sub = elim (ℕ-discrete i n) [
 -- ---- row i is asked to take v
 
 module _ (v : ℕ) (rows columns : List ℕ) (heavy : ℕ) (p : List ℕ) (A : Asks v rows columns heavy p) (i : ℕ) (h : i < length rows) (holds : has (at rows i) v ≡ true) where
-  P : Pairing 64 rows p
+  P : Pairing mostValues rows p
   P = A .pairing
 
   hp : i < length p
@@ -70,9 +71,9 @@ module _ (v : ℕ) (rows columns : List ℕ) (heavy : ℕ) (p : List ℕ) (A : A
   p₁ : List ℕ
   p₁ = set p i (suc v)
 
-  P₁ : Pairing 64 rows p₁
+  P₁ : Pairing mostValues rows p₁
   unfolding p₁
-  P₁ = pairing-put 64 rows p i v P hp (A .small, holds) (A .new)
+  P₁ = pairing-put mostValues rows p i v P hp (A .small, holds) (A .new)
 
   seated₁ : Seated p₁ v
   unfolding p₁
@@ -184,14 +185,14 @@ module _ (v : ℕ) (rows columns : List ℕ) (heavy : ℕ) (p : List ℕ) (A : A
 
 -- The rows that hold v are asked, or in `left`; the pairing is as it was, and the rows asked in between are taken.
 pub record Turn (v : ℕ) (rows p : List ℕ) (asked : ℕ) (p′ : List ℕ) (asked′ left : ℕ) : Type 0 where
-  pub word : left < 2 ^ 64
+  pub word : left < 2 ^ wordBits
   pub more : Inside asked asked′
   pub stuck : Stuck rows p asked p′ asked′
   pub remain : (i : ℕ) → has (at rows i) v ≡ true → (has asked′ i ≡ true) ⊎ (has left i ≡ true)
   pub inside : (i : ℕ) → has left i ≡ true → i < length rows
 
 module _ (v : ℕ) (rows p : List ℕ) (asked : ℕ) where
-  pub turn-start : (columns : List ℕ) (heavy : ℕ) → Index rows columns heavy → bitOr (at columns v) heavy < 2 ^ 64 → Turn v rows p asked p asked (bitOr (at columns v) heavy)
+  pub turn-start : (columns : List ℕ) (heavy : ℕ) → Index rows columns heavy → bitOr (at columns v) heavy < 2 ^ wordBits → Turn v rows p asked p asked (bitOr (at columns v) heavy)
   turn-start columns heavy X word = record {
     word = word;
     more = λ i t. t;
@@ -202,15 +203,15 @@ module _ (v : ℕ) (rows p : List ℕ) (asked : ℕ) where
 
   module _ (p′ : List ℕ) (asked′ left : ℕ) (T : Turn v rows p asked p′ asked′ left) where
     -- what `top` says of the rows left to ask, which are `some`
-    module _ (some r : ℕ) (is : some ≡ minus left asked′) (top : r ≡ 64 - leadingZeros 64 some) where
-      word : some < 2 ^ 64
-      word = subst (λ (x : ℕ). x < 2 ^ 64) (sym is) (minus-word 64 left asked′ (T .word))
+    module _ (some r : ℕ) (is : some ≡ minus left asked′) (top : r ≡ wordBits - leadingZeros wordBits some) where
+      word : some < 2 ^ wordBits
+      word = subst (λ (x : ℕ). x < 2 ^ wordBits) (sym is) (minus-word wordBits left asked′ (T .word))
 
-      pub turn-next : r ≢ zero → (r - 1 < 64) × (has (minus left asked′) (r - 1) ≡ true)
-      turn-next ne = let t = top-has 64 some r word top ne in (t .0, ap (λ (x : ℕ). has x (r - 1)) (sym is) ∙ t .1)
+      pub turn-next : r ≢ zero → (r - 1 < wordBits) × (has (minus left asked′) (r - 1) ≡ true)
+      turn-next ne = let t = top-has wordBits some r word top ne in (t .0, ap (λ (x : ℕ). has x (r - 1)) (sym is) ∙ t .1)
 
       pub turn-none : r ≡ zero → minus left asked′ ≡ zero
-      turn-none z = sym is ∙ top-none 64 some r word top z
+      turn-none z = sym is ∙ top-none wordBits some r word top z
 
     -- no row is left to ask
     pub turn-end : minus left asked′ ≡ zero → OfValue false v rows p asked p′ asked′
@@ -233,9 +234,9 @@ module _ (v : ℕ) (rows p : List ℕ) (asked : ℕ) where
       turn-less = without-less left i (minus-out left asked′ i next .0)
 
       -- the number that falls
-      pub turn-falls : length rows ≤ 64 → unasked 64 (bitOr asked′ (single i)) < unasked 64 asked
+      pub turn-falls : length rows ≤ wordBits → unasked wordBits (bitOr asked′ (single i)) < unasked wordBits asked
       turn-falls few =
-          unasked-falls 64 asked (bitOr asked′ (single i)) i (omega (arith, turn-row))
+          unasked-falls wordBits asked (bitOr asked′ (single i)) i (omega (arith, turn-row))
           (is-false (has asked i) (λ t. not-both (T .more i t) unasked-yet))
           (with-new asked′ i)
           (λ j t. with-old asked′ i j (T .more j t))
@@ -249,7 +250,7 @@ module _ (v : ℕ) (rows p : List ℕ) (asked : ℕ) where
       -- row i does not hold v
       pub turn-pass : has (at rows i) v ≡ false → Turn v rows p asked p′ asked′ (minus left (single i))
       turn-pass n = record {
-        word = minus-word 64 left (single i) (T .word);
+        word = minus-word wordBits left (single i) (T .word);
         more = T .more;
         stuck = T .stuck;
         remain = λ j t. elim (T .remain j t) [
@@ -272,7 +273,7 @@ module _ (v : ℕ) (rows p : List ℕ) (asked : ℕ) where
         -- row i has not
         pub turn-again : r ≡ false → Turn v rows p asked p″ asked″ (minus left (single i))
         turn-again f = record {
-          word = minus-word 64 left (single i) (T .word);
+          word = minus-word wordBits left (single i) (T .word);
           more = λ j e. later j (T .more j e);
           stuck = record { still = O .stuck f .still ∙ T .stuck .still; closed = closed };
           remain = λ j t. elim (T .remain j t) [

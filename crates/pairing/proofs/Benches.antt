@@ -10,6 +10,7 @@ use lib.Bits.{bitAnd, bitOr}
 use lib.ListN.{length, set, length-append}
 use lib.Seq.{set-append-seam}
 use borrow.Author.Tests.{not-true}
+use Rattle.sets.specs.Limits.{mostValues, wordBits}
 use Rattle.sets.specs.Sets.{has, single, minus}
 use Rattle.sets.proofs.Bools.{and-left, and-right, true-or-false, not-both, is-false}
 use Rattle.sets.proofs.Values.{has-empty, has-and, has-same, minus-in, minus-out}
@@ -20,7 +21,7 @@ use Rattle.theory.proofs.Sizes.{size-by-d}
 use Rattle.theory.proofs.FailedSearch.{failed-largest}
 use Rattle.pairing.specs.declared.seats.Seats.{Seats}
 use Rattle.pairing.specs.Asking.{Inside, Index, Shut, Asks, Searches, Grown, OfSearch}
-use Rattle.pairing.specs.Seats.{Unreached, Below, Bench, taking}
+use Rattle.pairing.specs.Seats.{seats, Unreached, Below, Bench, taking}
 use Rattle.pairing.proofs.AskSteps.{row-free}
 use Rattle.pairing.proofs.SeatColumns.{left-or-same}
 use Rattle.pairing.proofs.Snoc.{at-open, size-open, seated-open, open-seated, full-mate, row-last, holds-cases, holds-before, pairing-open, shut-open, index-open}
@@ -41,7 +42,7 @@ alive-out dead (suc w) a = (w, refl, not-true (has dead w) a)
 
 module _ (s : Seats) (R columns p : List ℕ) (B : Bench s R columns p) where
   -- where a value is free there is a seat for a row more
-  pub seat-left : (v : ℕ) → has (s .free) v ≡ true → length R < 64
+  pub seat-left : (v : ℕ) → has (s .free) v ≡ true → length R < seats
   unfolding size
   seat-left v t = omega (arith, B .full, below)
     where
@@ -51,12 +52,12 @@ module _ (s : Seats) (R columns p : List ℕ) (B : Bench s R columns p) where
       single-place (suc i) zero u e f = absurd (B .new v t .1 (i, e ∙ sym f))
       single-place (suc i) (suc j) u e f = ap suc (B .pairing .apart i j u e f)
 
-      small : (i u : ℕ) → at (suc v ∷ p) i ≡ suc u → u < 64
+      small : (i u : ℕ) → at (suc v ∷ p) i ≡ suc u → u < mostValues
       small zero u e = omega (arith, e, B .new v t .0, B .column)
       small (suc i) u e = B .pairing .holds i u e .0
 
-      below : suc (size p) ≤ 64
-      below = size-by-d 64 (suc v ∷ p) single-place small
+      below : suc (size p) ≤ mostValues
+      below = size-by-d mostValues (suc v ∷ p) single-place small
 
   -- a value that is free is not dead
   free-alive : (v : ℕ) → has (s .free) v ≡ true → has (s .dead) v ≡ false
@@ -77,27 +78,27 @@ module _ (s : Seats) (R columns p : List ℕ) (B : Bench s R columns p) where
         let same : k .0 ≡ i = B .pairing .apart (k .0) i (m .0) (k .1) (m .1) in
         not-both (k .2 v (ap (λ (j : ℕ). has (at R j) v) same ∙ t)) n))
 
-    dead-largest : Inside row (s .dead) → Largest 64 (R ++ row ∷ []) (p ++ zero ∷ [])
-    dead-largest ins = failed-largest 64 (R ++ row ∷ []) (p ++ zero ∷ []) (pairing-open R row p (B .pairing)) (λ i. aliveMate (s .dead) (at p i)) closed tried
+    dead-largest : Inside row (s .dead) → Largest mostValues (R ++ row ∷ []) (p ++ zero ∷ [])
+    dead-largest ins = failed-largest mostValues (R ++ row ∷ []) (p ++ zero ∷ []) (pairing-open R row p (B .pairing)) (λ i. aliveMate (s .dead) (at p i)) closed tried
       where
-        heard : (v : ℕ) → has (s .dead) v ≡ false → Heard 64 (R ++ row ∷ []) (λ i. aliveMate (s .dead) (at p i)) v
+        heard : (v : ℕ) → has (s .dead) v ≡ false → Heard mostValues (R ++ row ∷ []) (λ i. aliveMate (s .dead) (at p i)) v
         heard v n j inn = elim (holds-cases R row j v (inn .1)) [
           | inl b ↦ holder-alive j v (b .0) (b .1) n
           | inr e ↦ absurd (not-both (ins v (e .1)) n)
         ]
 
-        closed : (i : ℕ) → aliveMate (s .dead) (at p i) ≡ true → (w : ℕ) × (at (p ++ zero ∷ []) i ≡ suc w) × Heard 64 (R ++ row ∷ []) (λ i. aliveMate (s .dead) (at p i)) w
+        closed : (i : ℕ) → aliveMate (s .dead) (at p i) ≡ true → (w : ℕ) × (at (p ++ zero ∷ []) i ≡ suc w) × Heard mostValues (R ++ row ∷ []) (λ i. aliveMate (s .dead) (at p i)) w
         closed i a = let k = alive-out (s .dead) (at p i) a in (k .0, at-open p i ∙ k .1, heard (k .0) (k .2))
 
-        tried : (v : ℕ) → v < 64 → (Seated (p ++ zero ∷ []) v → ⊥) → Heard 64 (R ++ row ∷ []) (λ i. aliveMate (s .dead) (at p i)) v
+        tried : (v : ℕ) → v < mostValues → (Seated (p ++ zero ∷ []) v → ⊥) → Heard mostValues (R ++ row ∷ []) (λ i. aliveMate (s .dead) (at p i)) v
         tried v h none = heard v (is-false (has (s .dead) v) (λ e. let k = B .shut v e in none (open-seated p v (k .0, k .1))))
 
-    full-largest : s .free ≡ zero → Largest 64 (R ++ row ∷ []) (p ++ zero ∷ [])
+    full-largest : s .free ≡ zero → Largest mostValues (R ++ row ∷ []) (p ++ zero ∷ [])
     full-largest z =
-        failed-largest 64 (R ++ row ∷ []) (p ++ zero ∷ []) (pairing-open R row p (B .pairing)) (λ i. false) (λ i a. absurd (not-both a refl))
+        failed-largest mostValues (R ++ row ∷ []) (p ++ zero ∷ []) (pairing-open R row p (B .pairing)) (λ i. false) (λ i a. absurd (not-both a refl))
         (λ v h none i inn. absurd (not-both (B .free v (below i v (inn .1)) (λ q. none (open-seated p v q))) (ap (λ (x : ℕ). has x v) z ∙ has-empty v)))
 
-    pub passed-largest : Inside row (s .dead) ⊎ (s .free ≡ zero) → Largest 64 (R ++ row ∷ []) (p ++ zero ∷ [])
+    pub passed-largest : Inside row (s .dead) ⊎ (s .free ≡ zero) → Largest mostValues (R ++ row ∷ []) (p ++ zero ∷ [])
     passed-largest (inl ins) = dead-largest ins
     passed-largest (inr z) = full-largest z
 
@@ -139,7 +140,7 @@ module _ (s : Seats) (R columns p : List ℕ) (B : Bench s R columns p) where
     }
 
     -- what a search may rely on; the rows may have gone into columns before
-    pub bench-searches : (columns′ : List ℕ) (heavy′ : ℕ) → length R < 64 → Index R columns′ heavy′
+    pub bench-searches : (columns′ : List ℕ) (heavy′ : ℕ) → length R < seats → Index R columns′ heavy′
         → Searches (s .free) (R ++ row ∷ []) columns′ (bitOr heavy′ (single (length R))) (p ++ zero ∷ [])
     bench-searches columns′ heavy′ room X = record {
       few = let e : length (R ++ row ∷ []) ≡ length R + 1 = length-append R (row ∷ []) in omega (arith, room);
@@ -191,7 +192,7 @@ module _ (s : Seats) (R columns p : List ℕ) (B : Bench s R columns p) where
 
     -- ---- a search has failed
 
-    module _ (r : ℕ) (p′ : List ℕ) (asked dead′ : ℕ) (O : OfSearch r (s .free) (R ++ row ∷ []) (p ++ zero ∷ []) p′ asked) (none : 64 ≤ r) (D : Unreached asked p dead′) where
+    module _ (r : ℕ) (p′ : List ℕ) (asked dead′ : ℕ) (O : OfSearch r (s .free) (R ++ row ∷ []) (p ++ zero ∷ []) p′ asked) (none : wordBits ≤ r) (D : Unreached asked p dead′) where
       -- the values of a row that was not asked are those that no question reached
       unasked-dead : (j v : ℕ) → has asked j ≡ false → has (at (R ++ row ∷ []) j) v ≡ true → has dead′ v ≡ true
       unasked-dead j v n t = elim (seated? p v) [
@@ -200,12 +201,12 @@ module _ (s : Seats) (R columns p : List ℕ) (B : Bench s R columns p) where
           | inl a ↦
               let k = O .closed none (q .0) a in
               let same : k .0 ≡ v = suc-inj (sym (k .1) ∙ at-open p (q .0) ∙ q .1) in
-              absurd (not-both (k .2 j (subst (λ (u : ℕ). In 64 (at (R ++ row ∷ []) j) u) (sym same) (small, t))) n)
+              absurd (not-both (k .2 j (subst (λ (u : ℕ). In mostValues (at (R ++ row ∷ []) j) u) (sym same) (small, t))) n)
           | inr f ↦ D .all (q .0) v (q .1) f
         ]
       ]
         where
-          small : v < 64
+          small : v < mostValues
           small = omega (arith, below j v t, B .column)
 
       pub failed-shut : Shut R p dead′

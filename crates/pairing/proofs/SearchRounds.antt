@@ -7,6 +7,7 @@ use mathlib.Core.List.{List}
 use native.Mathlib.Omega.{arith}
 use lib.Count.{trailingZeros}
 use borrow.Author.Tests.{eqb-true}
+use Rattle.sets.specs.Limits.{mostValues, wordBits}
 use Rattle.sets.specs.Sets.{has, single, minus}
 use Rattle.sets.proofs.Bools.{true-or-false, not-both}
 use Rattle.sets.proofs.Extremes.{lowest-has}
@@ -18,12 +19,12 @@ use Rattle.theory.specs.Search.{Heard}
 use Rattle.pairing.specs.Asking.{Inside, Searches, Asks, Grown, Taken, Stuck, OfValue, OfSearch}
 
 pub record Round (free : ℕ) (rows p p′ : List ℕ) (asked′ left : ℕ) : Type 0 where
-  pub word : left < 2 ^ 64
+  pub word : left < 2 ^ wordBits
   pub some : Inside left free
   pub stuck : Stuck rows p zero p′ asked′
-  pub done : (v : ℕ) → has free v ≡ true → (has left v ≡ true) ⊎ Heard 64 rows (has asked′) v
+  pub done : (v : ℕ) → has free v ≡ true → (has left v ≡ true) ⊎ Heard mostValues rows (has asked′) v
 
-pub round-start : (free : ℕ) (rows p : List ℕ) (asked : ℕ) → free < 2 ^ 64 → asked ≡ zero → Round free rows p p asked free
+pub round-start : (free : ℕ) (rows p : List ℕ) (asked : ℕ) → free < 2 ^ wordBits → asked ≡ zero → Round free rows p p asked free
 round-start free rows p asked word none = record {
   word = word;
   some = λ v t. t;
@@ -33,7 +34,7 @@ round-start free rows p asked word none = record {
 
 module _ {free : ℕ} {rows p p′ : List ℕ} {asked′ left : ℕ} (R : Round free rows p p′ asked′ left) where
   -- no value is left to ask
-  pub round-end : left ≡ zero → OfSearch 64 free rows p p′ asked′
+  pub round-end : left ≡ zero → OfSearch wordBits free rows p p′ asked′
   round-end z = record {
     found = λ h. absurd (omega (arith, h));
     still = λ _. R .stuck .still;
@@ -42,21 +43,21 @@ module _ {free : ℕ} {rows p p′ : List ℕ} {asked′ left : ℕ} (R : Round 
   }
 
   -- v is next
-  module _ {v : ℕ} (is : v ≡ trailingZeros 64 left) (ne : left ≢ zero) where
-    lowest : (trailingZeros 64 left < 64) × (has left (trailingZeros 64 left) ≡ true)
-    lowest = lowest-has 64 left (R .word) ne
+  module _ {v : ℕ} (is : v ≡ trailingZeros wordBits left) (ne : left ≢ zero) where
+    lowest : (trailingZeros wordBits left < wordBits) × (has left (trailingZeros wordBits left) ≡ true)
+    lowest = lowest-has wordBits left (R .word) ne
 
-    pub round-small : v < 64
-    round-small = subst (λ (x : ℕ). x < 64) (sym is) (lowest .0)
+    pub round-small : v < wordBits
+    round-small = subst (λ (x : ℕ). x < wordBits) (sym is) (lowest .0)
 
     here : has left v ≡ true
     here = ap (has left) is ∙ lowest .1
 
     -- what is left when v has been taken out
-    pub round-left : (rest : ℕ) → rest ≡ minus left (single (trailingZeros 64 left)) → rest ≡ minus left (single v)
+    pub round-left : (rest : ℕ) → rest ≡ minus left (single (trailingZeros wordBits left)) → rest ≡ minus left (single v)
     round-left rest e = e ∙ ap (λ (x : ℕ). minus left (single x)) (sym is)
 
-    pub round-less : (rest : ℕ) → rest ≡ minus left (single (trailingZeros 64 left)) → rest < left
+    pub round-less : (rest : ℕ) → rest ≡ minus left (single (trailingZeros wordBits left)) → rest < left
     round-less rest e = omega (arith, round-left rest e, without-less left v here)
 
     pub round-asks : {columns : List ℕ} {heavy : ℕ} → Searches free rows columns heavy p → Asks v rows columns heavy p′
@@ -77,13 +78,13 @@ module _ {free : ℕ} {rows p p′ : List ℕ} {asked′ left : ℕ} (R : Round 
       -- v has not
       again : r ≡ false → Round free rows p p″ asked″ (minus left (single v))
       again f = record {
-        word = minus-word 64 left (single v) (R .word);
+        word = minus-word wordBits left (single v) (R .word);
         some = λ u t. R .some u (minus-out left (single v) u t .0);
         stuck = record { still = O .stuck f .still ∙ R .stuck .still; closed = closed };
         done = λ u t. elim (R .done u t) [
           | inr h ↦ inr (λ i inn. O .more i (h i inn))
           | inl l ↦ elim (true-or-false (has (single v) u)) [
-            | inl e ↦ inr (subst (Heard 64 rows (has asked″)) (eqb-true v u (sym (has-single v u) ∙ e)) (O .heard f))
+            | inl e ↦ inr (subst (Heard mostValues rows (has asked″)) (eqb-true v u (sym (has-single v u) ∙ e)) (O .heard f))
             | inr n ↦ inl (minus-in left (single v) u l n)
           ]
         ];
@@ -95,5 +96,5 @@ module _ {free : ℕ} {rows p p′ : List ℕ} {asked′ left : ℕ} (R : Round 
             | inr a ↦ let k = O .stuck f .closed i t a in (k .0, ap (λ (l : List ℕ). at l i) (sym (R .stuck .still)) ∙ k .1, k .2)
           ]
 
-      pub round-again : (rest : ℕ) → rest ≡ minus left (single (trailingZeros 64 left)) → r ≡ false → Round free rows p p″ asked″ rest
+      pub round-again : (rest : ℕ) → rest ≡ minus left (single (trailingZeros wordBits left)) → r ≡ false → Round free rows p p″ asked″ rest
       round-again rest e f = subst (Round free rows p p″ asked″) (sym (round-left rest e)) (again f)

@@ -9,6 +9,7 @@ use lib.Bits.{bitOr}
 use lib.Count.{trailingZeros}
 use lib.ListN.{length, set, length-set}
 use borrow.Author.Tests.{eqb-true}
+use Rattle.sets.specs.Limits.{mostValues, wordBits}
 use Rattle.sets.specs.Sets.{has, single, minus}
 use Rattle.sets.proofs.Bools.{true-or-false, not-both, or-cases, or-left, or-right}
 use Rattle.sets.proofs.Extremes.{lowest-has}
@@ -31,14 +32,14 @@ left-or-same a v u h = elim (true-or-false (has (single v) u)) [
 
 -- row i stands in the columns of its values, but for those in `left`
 pub record Entering (row i : ℕ) (columns columns′ : List ℕ) (left : ℕ) : Type 0 where
-  pub word : left < 2 ^ 64
+  pub word : left < 2 ^ wordBits
   pub wide : length columns′ ≡ length columns
   pub new : (v : ℕ) → has row v ≡ true → (has left v ≡ true) ⊎ (has (at columns′ v) i ≡ true)
   pub old : (j v : ℕ) → has (at columns v) j ≡ true → has (at columns′ v) j ≡ true
   pub from : (j v : ℕ) → has (at columns′ v) j ≡ true → (j ≡ i) ⊎ (has (at columns v) j ≡ true)
 
 module _ {row i : ℕ} {columns : List ℕ} where
-  pub enter-start : row < 2 ^ 64 → Entering row i columns columns row
+  pub enter-start : row < 2 ^ wordBits → Entering row i columns columns row
   enter-start word = record { word = word; wide = refl; new = λ v t. inl t; old = λ j v t. t; from = λ j v t. inr t }
 
   module _ {columns′ : List ℕ} {left : ℕ} (E : Entering row i columns columns′ left) where
@@ -51,22 +52,22 @@ module _ {row i : ℕ} {columns : List ℕ} where
     }
 
     -- v is the next value
-    module _ {v : ℕ} (is : v ≡ trailingZeros 64 left) (ne : left ≢ zero) where
-      lowest : (v < 64) × (has left v ≡ true)
-      lowest = subst (λ (x : ℕ). (x < 64) × (has left x ≡ true)) (sym is) (lowest-has 64 left (E .word) ne)
+    module _ {v : ℕ} (is : v ≡ trailingZeros wordBits left) (ne : left ≢ zero) where
+      lowest : (v < wordBits) × (has left v ≡ true)
+      lowest = subst (λ (x : ℕ). (x < wordBits) × (has left x ≡ true)) (sym is) (lowest-has wordBits left (E .word) ne)
 
-      pub enter-small : v < 64
+      pub enter-small : v < wordBits
       enter-small = lowest .0
 
-      left-now : (rest : ℕ) → rest ≡ minus left (single (trailingZeros 64 left)) → rest ≡ minus left (single v)
+      left-now : (rest : ℕ) → rest ≡ minus left (single (trailingZeros wordBits left)) → rest ≡ minus left (single v)
       left-now rest e = e ∙ ap (λ (x : ℕ). minus left (single x)) (sym is)
 
-      pub enter-less : (rest : ℕ) → rest ≡ minus left (single (trailingZeros 64 left)) → rest < left
+      pub enter-less : (rest : ℕ) → rest ≡ minus left (single (trailingZeros wordBits left)) → rest < left
       enter-less rest e = omega (arith, left-now rest e, without-less left v (lowest .1))
 
-      next : length columns ≡ 64 → Entering row i columns (set columns′ v (bitOr (at columns′ v) (single i))) (minus left (single v))
+      next : length columns ≡ mostValues → Entering row i columns (set columns′ v (bitOr (at columns′ v) (single i))) (minus left (single v))
       next wide = record {
-        word = minus-word 64 left (single v) (E .word);
+        word = minus-word wordBits left (single v) (E .word);
         wide = length-set columns′ v (bitOr (at columns′ v) (single i)) ∙ E .wide;
         new = λ u t. elim (E .new u t) [
           | inr c ↦ inr (kept i u c)
@@ -97,7 +98,7 @@ module _ {row i : ℕ} {columns : List ℕ} where
             | inr s ↦ ap (λ (x : ℕ). has x j) (s .1) ∙ t
           ]
 
-      pub enter-next : length columns ≡ 64 → (rest put : ℕ) → rest ≡ minus left (single (trailingZeros 64 left)) → put ≡ bitOr (at columns′ v) (single i) → Entering row i columns (set columns′ v put) rest
+      pub enter-next : length columns ≡ mostValues → (rest put : ℕ) → rest ≡ minus left (single (trailingZeros wordBits left)) → put ≡ bitOr (at columns′ v) (single i) → Entering row i columns (set columns′ v put) rest
       enter-next wide rest put e f =
           subst (Entering row i columns (set columns′ v put)) (sym (left-now rest e))
           (subst (λ (x : ℕ). Entering row i columns (set columns′ v x) (minus left (single v))) (sym f) (next wide))

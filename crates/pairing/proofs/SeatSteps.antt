@@ -1,4 +1,4 @@
--- The same on the 64 places in which the seats are kept: the first are in use, and the next is stored to. Assumes nothing.
+-- The same on the places in which the seats are kept: the first are in use, and the next is stored to. Assumes nothing.
 use Prim.Native.Nat.{ℕ, zero, _+_, _^_, _≤_, _<_}
 use mathlib.Core.Path.{_≡_, refl, sym, ap, _∙_, subst}
 use mathlib.Core.Logic.{_≢_, _⊎_, inl, inr}
@@ -11,6 +11,7 @@ use lib.Bits.{bitAnd, bitOr, and-le-l}
 use lib.Count.{trailingZeros}
 use lib.ListN.{length, set, take, drop, length-set, length-append, length-drop}
 use lib.Seq.{take-suc-set, take-set-le, length-take-le, take-at}
+use Rattle.sets.specs.Limits.{mostValues, wordBits}
 use Rattle.sets.specs.Sets.{has, single, minus}
 use Rattle.sets.proofs.Bools.{and-left, and-right, not-both}
 use Rattle.sets.proofs.Extremes.{lowest-has}
@@ -20,7 +21,7 @@ use Rattle.theory.specs.Pairings.{at}
 use Rattle.theory.proofs.Places.{mate?}
 use Rattle.pairing.specs.declared.seats.Seats.{Seats}
 use Rattle.pairing.specs.Asking.{Inside, Index, Searches, Grown, OfSearch}
-use Rattle.pairing.specs.Seats.{Mates, Unreached, Below, Bench, Sitting, taking, OfSeat}
+use Rattle.pairing.specs.Seats.{seats, Mates, Unreached, Below, Bench, Sitting, taking, OfSeat}
 use Rattle.pairing.proofs.Benches.{seat-left, bench-more, bench-searches, bench-direct, search-part, search-all, failed-shut, failed-row, bench-other}
 
 module _ (row : ℕ) (s : Seats) (rows columns mates : List ℕ) (S : Sitting s rows columns mates) where
@@ -36,10 +37,10 @@ module _ (row : ℕ) (s : Seats) (rows columns mates : List ℕ) (S : Sitting s 
   seat-passed why = record { sits = S; column = refl; either = inl (record { used = refl; rows-kept = refl; why = why }) }
 
   -- a value is free, so there is room
-  pub seat-room : s .free ≢ zero → s .used < 64
+  pub seat-room : s .free ≢ zero → s .used < seats
   seat-room some = let t = some-value (s .free) some in omega (arith, seat-left s R columns p (S .bench) (t .0) (t .1), S .bench .used)
 
-  module _ (low : Below (s .d) row) (room : s .used < 64) where
+  module _ (low : Below (s .d) row) (room : s .used < seats) where
     rows-put : take (s .used + 1) (set rows (s .used) row) ≡ R ++ row ∷ []
     rows-put = rw add-one (take-suc-set rows (s .used) row (omega (arith, S .rows-wide)))
 
@@ -51,7 +52,7 @@ module _ (row : ℕ) (s : Seats) (rows columns mates : List ℕ) (S : Sitting s 
 
     -- the row has got the next seat, and the rows the mates p′
     seat-more : (s₁ : Seats) (columns′ : List ℕ) (v : ℕ) (p′ mates′ : List ℕ) → s₁ .used ≡ s .used → s₁ .d ≡ s .d → Bench s₁ R columns′ p → has (s₁ .free) v ≡ true → Grown (R ++ row ∷ []) v (p ++ zero ∷ []) p′
-        → length mates′ ≡ 64 → take (s .used + 1) mates′ ≡ p′ → OfSeat row s rows (taking s₁ row v) (set rows (s .used) row) columns′ mates′
+        → length mates′ ≡ seats → take (s .used + 1) mates′ ≡ p′ → OfSeat row s rows (taking s₁ row v) (set rows (s .used) row) columns′ mates′
     seat-more s₁ columns′ v p′ mates′ same-used same-d B t G wide is = record {
       sits = record {
         rows-wide = length-set rows (s .used) row ∙ S .rows-wide;
@@ -79,7 +80,7 @@ module _ (row : ℕ) (s : Seats) (rows columns mates : List ℕ) (S : Sitting s 
 
     -- ---- a search
 
-    pub seek-index : (length (take (s .used) (set rows (s .used) row)) ≤ 64) × Index (take (s .used) (set rows (s .used) row)) columns (s .heavy)
+    pub seek-index : (length (take (s .used) (set rows (s .used) row)) ≤ seats) × Index (take (s .used) (set rows (s .used) row)) columns (s .heavy)
     seek-index = (omega (arith, ap length rows-old, S .bench .used), subst (λ (l : List ℕ). Index l columns (s .heavy)) (sym rows-old) (S .bench .index))
 
     module _ (columns′ : List ℕ) (heavy′ : ℕ) (X : Index (take (s .used) (set rows (s .used) row)) columns′ heavy′) (from : ℕ) (is : from ≡ minus (s .free) (minus (s .fresh) row)) where
@@ -104,7 +105,7 @@ module _ (row : ℕ) (s : Seats) (rows columns mates : List ℕ) (S : Sitting s 
         abbrev mates′ : List ℕ
         mates′ = p′ ++ drop (s .used + 1) (set mates (s .used) zero)
 
-        pub seek-long : length mates′ ≡ 64
+        pub seek-long : length mates′ ≡ seats
         seek-long = omega (arith, length-append p′ (drop (s .used + 1) (set mates (s .used) zero)), length-drop (s .used + 1) (set mates (s .used) zero), length-set mates (s .used) zero, S .mates-wide, long)
 
         plain : OfSearch v (s .free) (R ++ row ∷ []) (p ++ zero ∷ []) p′ asked
@@ -113,14 +114,14 @@ module _ (row : ℕ) (s : Seats) (rows columns mates : List ℕ) (S : Sitting s 
             (subst (λ (f : ℕ). OfSearch v f (R ++ row ∷ []) (p ++ zero ∷ []) p′ asked) is
             (subst (λ (l : List ℕ). OfSearch v from l (p ++ zero ∷ []) p′ asked) rows-put (subst (λ (l : List ℕ). OfSearch v from (take (s .used + 1) (set rows (s .used) row)) l p′ asked) (mates-put zero) O)))
 
-        pub seek-found : v < 64 → OfSeat row s rows (taking (s₁ (s .dead)) row v) (set rows (s .used) row) columns′ mates′
+        pub seek-found : v < wordBits → OfSeat row s rows (taking (s₁ (s .dead)) row v) (set rows (s .used) row) columns′ mates′
         seek-found h =
             let k = plain .found h in
             seat-more (s₁ (s .dead)) columns′ v p′ mates′ refl refl (bench-other s R columns p (S .bench) columns′ (s .used) heavy′ (s .dead) index (S .bench .shut)) (k .0) (k .1) seek-long
             (take-at p′ (drop (s .used + 1) (set mates (s .used) zero)) (s .used + 1) long)
 
         -- no value has got a row: the mates are as they were
-        module _ (none : 64 ≤ v) where
+        module _ (none : wordBits ≤ v) where
           mates-old : take (s .used) mates′ ≡ p
           mates-old =
               ap (λ (l : List ℕ). take (s .used) (l ++ drop (s .used + 1) (set mates (s .used) zero))) (plain .still none)
@@ -152,10 +153,10 @@ module _ (row : ℕ) (s : Seats) (rows columns mates : List ℕ) (S : Sitting s 
               plain-dead = subst (λ (l : List ℕ). Unreached asked l dead) mates-old D
 
 -- the lowest value that the row has in common with others
-pub near-value : (row free v : ℕ) → row < 2 ^ 64 → v ≡ trailingZeros 64 (bitAnd row free) → bitAnd row free ≢ zero → (v < 64) × (has free v ≡ true) × (has row v ≡ true)
-near-value row free v word is some = go (lowest-has 64 (bitAnd row free) (omega (arith, and-le-l row free)) some)
+pub near-value : (row free v : ℕ) → row < 2 ^ wordBits → v ≡ trailingZeros wordBits (bitAnd row free) → bitAnd row free ≢ zero → (v < mostValues) × (has free v ≡ true) × (has row v ≡ true)
+near-value row free v word is some = go (lowest-has wordBits (bitAnd row free) (omega (arith, and-le-l row free)) some)
   where
-    go : (trailingZeros 64 (bitAnd row free) < 64) × (has (bitAnd row free) (trailingZeros 64 (bitAnd row free)) ≡ true) → (v < 64) × (has free v ≡ true) × (has row v ≡ true)
+    go : (trailingZeros wordBits (bitAnd row free) < wordBits) × (has (bitAnd row free) (trailingZeros wordBits (bitAnd row free)) ≡ true) → (v < mostValues) × (has free v ≡ true) × (has row v ≡ true)
     go (h, t) =
         let both : (has row v && has free v) ≡ true = sym (has-and row free v) ∙ ap (has (bitAnd row free)) is ∙ t in
         (omega arith, and-right (has row v) (has free v) both, and-left (has row v) (has free v) both)

@@ -6,10 +6,15 @@ use mathlib.Core.Bool.{Bool, true, false}
 use mathlib.Core.List.{List, [], _∷_, _++_}
 use lib.Bits.{bitOr}
 use lib.ListN.{length, take}
+use Rattle.sets.specs.Limits.{mostValues}
 use Rattle.sets.specs.Sets.{has, single, minus}
 use Rattle.theory.specs.Pairings.{size, at, Seated, Pairing}
 use Rattle.pairing.specs.declared.seats.Seats.{Seats}
 use Rattle.pairing.specs.Asking.{Inside, Index, Shut}
+
+-- how many seats there are: as many as a column can have values, for a row that sits has a value of its own
+abbrev pub seats : ℕ
+seats = mostValues
 
 -- row i stands in the columns of its values now, and else they are as they were
 pub record Entered (row i : ℕ) (columns columns′ : List ℕ) : Type 0 where
@@ -18,10 +23,10 @@ pub record Entered (row i : ℕ) (columns columns′ : List ℕ) : Type 0 where
   pub old : (j v : ℕ) → has (at columns v) j ≡ true → has (at columns′ v) j ≡ true
   pub from : (j v : ℕ) → has (at columns′ v) j ≡ true → (j ≡ i) ⊎ (has (at columns v) j ≡ true)
 
--- mates of at most 64 rows, each a value below 64
+-- the mates of rows on seats: a mate is 0, or one more than a value
 pub record Mates (p : List ℕ) : Type 0 where
-  pub few : length p ≤ 64
-  pub small : (i : ℕ) → at p i ≤ 64
+  pub few : length p ≤ seats
+  pub small : (i : ℕ) → at p i ≤ mostValues
 
 -- r is the set of the mates of the rows that were not asked
 pub record Unreached (asked : ℕ) (p : List ℕ) (r : ℕ) : Type 0 where
@@ -35,8 +40,8 @@ Below d row = (v : ℕ) → has row v ≡ true → v < d
 -- The rows R on the seats have the mates p, each row one: a pairing that uses them all.
 pub record Bench (s : Seats) (R columns p : List ℕ) : Type 0 where
   pub used : length R ≡ s .used
-  pub column : s .d ≤ 64
-  pub pairing : Pairing 64 R p
+  pub column : s .d ≤ mostValues
+  pub pairing : Pairing mostValues R p
   pub full : size p ≡ length R
   pub small : (i : ℕ) → Below (s .d) (at R i)
   pub new : (v : ℕ) → has (s .free) v ≡ true → (v < s .d) × (Seated p v → ⊥)
@@ -45,11 +50,11 @@ pub record Bench (s : Seats) (R columns p : List ℕ) : Type 0 where
   pub fresh : (i v : ℕ) → has (at R i) v ≡ true → has (s .fresh) v ≡ false
   pub index : Index R columns (s .heavy)
 
--- the seats in use are the first of 64
+-- the seats in use are the first
 pub record Sitting (s : Seats) (rows columns mates : List ℕ) : Type 0 where
-  pub rows-wide : length rows ≡ 64
-  pub mates-wide : length mates ≡ 64
-  pub few : s .used ≤ 64
+  pub rows-wide : length rows ≡ seats
+  pub mates-wide : length mates ≡ seats
+  pub few : s .used ≤ seats
   pub bench : Bench s (take (s .used) rows) columns (take (s .used) mates)
 
 -- v has got a row, and the new row a seat

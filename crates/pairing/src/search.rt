@@ -63,7 +63,7 @@ pub fn ask_row(
     false
 }
 
-// The values of `free`, which have no rows, ask one after another until one has got a row. Answers that value, or 64; `asked` starts empty.
+// The values of `free`, which have no rows, ask one after another until one has got a row. Answers that value, or `sets::BITS`, which is no value; `asked` starts empty.
 pub fn search(
     free: u64,
     rows: &[u64],
@@ -78,7 +78,7 @@ pub fn search(
     let mut left = free;
     loop {
         if left == 0 {
-            return 64;
+            return sets::BITS;
         }
         let v = sets::lowest(left);
         left = sets::rest(left);

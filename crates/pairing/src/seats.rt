@@ -1,4 +1,4 @@
-// The rows that have mates sit on 64 seats, in the order in which they got one: a row that has a mate once has one for good, though not always the same.
+// The rows that have mates sit on seats, in the order in which they got one: a row that has a mate once has one for good, though not always the same.
 // A row more is put in where that makes the pairing larger: it takes a free value that it holds, or is hopeless, or seeks.
 ghost use mathlib.Core.Path.{_≡_};
 ghost use mathlib.Core.Logic.{_≢_};
@@ -6,9 +6,10 @@ ghost use mathlib.Core.Bool.{true};
 ghost use lib.Bits.{bitAnd};
 ghost use Prim.Native.Nat.{_<_, _≤_};
 ghost use lib.ListN.{length};
+ghost use Rattle.sets.specs.Limits.{mostValues};
 ghost use Rattle.sets.specs.Sets.{has};
 ghost use Rattle.pairing.specs.Asking.{Inside, Index};
-ghost use Rattle.pairing.specs.Seats.{Entered, Mates, Unreached, Below, Sitting, taking, OfSeat, Hopeless};
+ghost use Rattle.pairing.specs.Seats.{seats, Entered, Mates, Unreached, Below, Sitting, taking, OfSeat, Hopeless};
 use crate::search::search;
 
 // Beside the seats' rows, columns and mates: `d` is how many values the column has, `free` the values below d that have no row,
@@ -24,9 +25,12 @@ pub struct Seats {
     pub heavy: u64,
 }
 
+// A row of at most so many values is light. Any number would be right, and this one is quick.
+const LIGHT: u32 = 8;
+
 // Row i goes into the columns of its values.
 fn enter(row: u64, i: usize, columns: &mut [u64])
-    requires { ⌜ (i < 64) × (length (now columns) ≡ 64) ⌝ }
+    requires { ⌜ (i < seats) × (length (now columns) ≡ mostValues) ⌝ }
     ensures { λ _. ⌜ Entered row i (now (columns .entry)) (now (columns .exit)) ⌝ }
 {
     let mut left = row;
@@ -37,9 +41,9 @@ fn enter(row: u64, i: usize, columns: &mut [u64])
     }
 }
 
-// The rows of few values, from seat `entered` on, go into columns, where a search finds them at once; a row of many values is found soon anyway.
+// The light rows, from seat `entered` on, go into columns, where a search finds them at once; a row of many values is found soon anyway.
 fn enter_light(entered: usize, heavy: u64, rows: &[u64], columns: &mut [u64]) -> u64
-    requires { ⌜ (length (now rows) ≤ 64) × Index (now rows) (now columns) heavy ⌝ }
+    requires { ⌜ (length (now rows) ≤ seats) × Index (now rows) (now columns) heavy ⌝ }
     ensures { λ r. ⌜ Index (now (rows .entry)) (now (columns .exit)) r ⌝ }
 {
     let mut left = heavy;
@@ -48,7 +52,7 @@ fn enter_light(entered: usize, heavy: u64, rows: &[u64], columns: &mut [u64]) ->
         let i = next;
         next += 1;
         let row = rows[i];
-        if u64::count_ones(row) <= 8 {
+        if u64::count_ones(row) <= LIGHT {
             enter(row, i, columns);
             left = sets::without(left, i);
         }
@@ -78,7 +82,7 @@ fn unreached(asked: u64, mates: &[usize]) -> u64
 
 // The seats when the value v has got a row, and the new row a seat.
 fn taken(s: Seats, row: u64, v: usize) -> Seats
-    requires { ⌜ (v < 64) × (s .used < 64) ⌝ }
+    requires { ⌜ (v < mostValues) × (s .used < seats) ⌝ }
     ensures { λ r. ⌜ r ≡ taking s row v ⌝ }
 {
     Seats {
@@ -95,7 +99,7 @@ fn taken(s: Seats, row: u64, v: usize) -> Seats
 // A search decides whether the row gets a seat. If not, the values that no question reached never come free again.
 // A free value that no row holds would ask in vain, so the search starts from the others.
 pub fn seek(row: u64, s: Seats, rows: &mut [u64], columns: &mut [u64], mates: &mut [usize]) -> Seats
-    requires { ⌜ (s .used < 64) × Sitting s (now rows) (now columns) (now mates) × Below (s .d) row ⌝ }
+    requires { ⌜ (s .used < seats) × Sitting s (now rows) (now columns) (now mates) × Below (s .d) row ⌝ }
     ensures { λ r. ⌜ OfSeat row s (now (rows .entry)) r (now (rows .exit)) (now (columns .exit)) (now (mates .exit)) ⌝ }
 {
     let used = s.used;
@@ -113,7 +117,7 @@ pub fn seek(row: u64, s: Seats, rows: &mut [u64], columns: &mut [u64], mates: &m
         &mut mates[..end],
         &mut asked,
     );
-    if v < 64 {
+    if v < sets::BITS {
         return taken(
             Seats {
                 d: s.d,
@@ -143,7 +147,7 @@ pub fn seek(row: u64, s: Seats, rows: &mut [u64], columns: &mut [u64], mates: &m
 // The free value that a row takes: one that no row on a seat holds, where there is one, for such a row may want the others.
 fn near(row: u64, free: u64, fresh: u64) -> usize
     requires { ⌜ (bitAnd row free ≢ 0) × Inside (bitAnd row fresh) free ⌝ }
-    ensures { λ r. ⌜ (r < 64) × (has free r ≡ true) × (has row r ≡ true) ⌝ }
+    ensures { λ r. ⌜ (r < mostValues) × (has free r ≡ true) × (has row r ≡ true) ⌝ }
 {
     let new = row & fresh;
     if new != 0 {

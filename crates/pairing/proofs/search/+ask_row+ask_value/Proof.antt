@@ -5,6 +5,7 @@ use Prim.Native.Nat.{suc, _+_, _*_, _-_}
 use native.Mathlib.Omega.{arith}
 use lib.Bits.{or-lt}
 use lib.ListN.{length, length-set}
+use Rattle.sets.specs.Limits.{wordBits}
 use Rattle.sets.specs.Sets.{has}
 use Rattle.sets.proofs.Values.{with-new}
 use Rattle.theory.specs.Pairings.{at}
@@ -28,10 +29,10 @@ use Rattle.pairing.proofs.search.+ask_row+ask_value.{statement}
 use Rattle.pairing.proofs.search.+ask_row+ask_value.Tie.{close}
 
 abbrev μ-ask-row : Measures 4 ask-row-kinds.ps ℕ
-μ-ask-row κs a = 2 * unasked 64 (a .1 .1 .1 .1 .1 .1 .0 .now) + 2
+μ-ask-row κs a = 2 * unasked wordBits (a .1 .1 .1 .1 .1 .1 .0 .now) + 2
 
 abbrev μ-ask-value : Measures 4 ask-value-kinds.ps ℕ
-μ-ask-value κs a = 2 * unasked 64 (a .1 .1 .1 .1 .1 .0 .now) + 1
+μ-ask-value κs a = 2 * unasked wordBits (a .1 .1 .1 .1 .1 .0 .now) + 1
 
 abbrev ask-row-at : ℕ → In 4 ask-row-kinds.ps
 ask-row-at t = and 4 ask-row-kinds.ps (is 4 ask-row-kinds.ps μ-ask-row t) ask-row.Pre
@@ -215,7 +216,7 @@ ask-value-loop-holds : (t : ℕ) → ask-value-lts.Need-loop-holds (
 ask-value-loop-holds t c =
     let e = c .before .before .before .before in
     turn-start (e .args .v) (e .args .rows .now) (e .args .mates .now) (e .args .asked .now) (e .args .columns .now) (e .args .heavy) (e .pre .1 .index)
-    (or-lt 64 (at (e .args .columns .now) (e .args .v)) (e .args .heavy) (c .shared-slice-known3 .given (e .args .v) .fits) (e .fits .heavy .fits))
+    (or-lt wordBits (at (e .args .columns .now) (e .args .v)) (e .args .heavy) (c .shared-slice-known3 .given (e .args .v) .fits) (e .fits .heavy .fits))
 
 ask-value-minus-requires : (t : ℕ) → ask-value-lts.Need-minus-requires (
   minus-reads.Asked,
@@ -421,7 +422,7 @@ ask-value-ask-row-requires t c κs =
     let next = turn-next (e .args .v) (e .args .rows .now) (e .args .mates .now) (e .args .asked .now) (l .mates) (l .asked) (l .left) (l .inv) (k .before .before .minus .result) (k .before .top .result) (k .before .before .minus .ensures) (k .before .top .ensures) (k .if1 .left) in
     let i = k .before .top .result - 1 in
     let with = c .before .before .with in (
-      omega (arith, turn-falls (e .args .v) (e .args .rows .now) (e .args .mates .now) (e .args .asked .now) (l .mates) (l .asked) (l .left) (l .inv) i (next .1) (e .pre .1 .few), ap (unasked 64) (with .ensures)),
+      omega (arith, turn-falls (e .args .v) (e .args .rows .now) (e .args .mates .now) (e .args .asked .now) (l .mates) (l .asked) (l .left) (l .inv) i (next .1) (e .pre .1 .few), ap (unasked wordBits) (with .ensures)),
       (
         subst (Asks (e .args .v) (e .args .rows .now) (e .args .columns .now) (e .args .heavy)) (sym (l .inv .stuck .still)) (e .pre .1),
         (
