@@ -11,17 +11,13 @@ use lib.Arith.{bin-ind}
 use lib.Bits.{bitAnd, or-lt}
 use lib.Dec.{eqb}
 use lib.Pow.{pow-mono, pow-pos, ones-lt}
-use borrow.Author.Tests.{lt-ltb, ltb-true, eqb-false, eq-eqb, ne-eqb, not-true}
+use borrow.Author.Tests.{ltb-true, eqb-false, eq-eqb, ne-eqb, not-true}
 use Rattle.sets.specs.Sets.{has, union, subset, minus, below, within}
 use Rattle.sets.proofs.Bools.{and-left, and-right, and-both, true-or-false, not-both}
 use Rattle.sets.proofs.Values.{has-and, has-empty, has-zero, has-suc, minus-in, minus-out, set-ext}
 use Rattle.sets.proofs.Subsets.{subset-has, has-subset}
 
 -- ---- by numbers
-
-pub less-below : (d r : ℕ) → r < 2 ^ d → below d r ≡ true
-unfolding below
-less-below d r h = lt-ltb r (2 ^ d) h
 
 pub below-less : (d r : ℕ) → below d r ≡ true → r < 2 ^ d
 unfolding below

@@ -4,7 +4,7 @@ ghost use Prim.Native.Nat.{_-_, _^_, _<_, _≤_};
 ghost use lib.Bits.{bitOr};
 ghost use lib.Count.{trailingZeros, leadingZeros};
 ghost use Rattle.sets.specs.Limits.{wordBits};
-ghost use Rattle.sets.specs.Sets.{has, single, subset, proper, minus, below, within};
+ghost use Rattle.sets.specs.Sets.{has, single, subset, minus, below, within};
 ghost use Rattle.sets.specs.Tables.{badRow};
 
 // How many bits a word has: a row of one word has no value from there on. (The limit of d, a rule of the request, is `Sheet::VALUES`.)
@@ -22,13 +22,6 @@ pub fn subset(a: u64, b: u64) -> bool
     ensures { λ r. ⌜ r ≡ subset a b ⌝ }
 {
     a & b == a
-}
-
-// A subset of b that is not b.
-pub fn proper(a: u64, b: u64) -> bool
-    ensures { λ r. ⌜ r ≡ proper a b ⌝ }
-{
-    if subset(a, b) { a != b } else { false }
 }
 
 // The values of a that are not b's.

@@ -1,5 +1,4 @@
--- What a largest pairing of the rows kept so far says of the next row. A row raises the rank by at most one: so a larger pairing of the kept rows and it is a largest one,
--- and the row is kept; where the pairing at hand is still a largest one with it, the row is not. Assumes nothing.
+-- The next row: it raises the rank by at most one, and is tried after those before it. Assumes nothing.
 use Prim.Native.Nat.{ℕ, zero, suc, _+_, _≤_, _<_}
 use mathlib.Core.Path.{_≡_, refl, sym, ap, _∙_}
 use mathlib.Core.Logic.{inl, inr}
@@ -10,8 +9,8 @@ use native.Mathlib.Omega.{arith}
 use lib.Dec.{ltb}
 use lib.ListN.{length, set}
 use lib.Seq.{set-getD}
-use borrow.Author.Tests.{lt-ltb, le-ltb}
-use Rattle.theory.specs.Pairings.{size, rank, at, Pairing, Largest}
+use borrow.Author.Tests.{le-ltb}
+use Rattle.theory.specs.Pairings.{rank, at, Pairing}
 use Rattle.theory.specs.Kept.{marked, pick, try, tries}
 use Rattle.theory.specs.Search.{mask}
 use Rattle.theory.proofs.Places.{Mate, mate?, not-mate, at-less, at-same, size-less}
@@ -49,31 +48,6 @@ module _ (d : ℕ) (view : List ℕ) where
   -- a row raises the rank by at most one
   pub rank-step : (ms : List Bool) (x : ℕ) → rank d (pick (set ms x true) view) ≤ suc (rank d (pick ms view))
   rank-step ms x = omega (arith, rank-mask d ms view, rank-mask d (set ms x true) view, rank-step-masked ms x)
-
-  module _ (ms : List Bool) (p : List ℕ) (P : Pairing d (mask ms view) p) (L : Largest d (mask ms view) p) where
-    largest-rank : rank d (mask ms view) ≡ size p
-    largest-rank = let h = rank-met d (mask ms view) in omega (arith, h .2, L (h .0) (h .1), rank-bound d (mask ms view) p P)
-
-    -- a larger pairing with row x: x is kept
-    pub next-kept : (x : ℕ) (q : List ℕ) → Pairing d (mask (set ms x true) view) q → size p < size q → try d view ms x ≡ set ms x true
-    unfolding try
-    next-kept x q Q h =
-        ap (λ (b : Bool). cond b (set ms x true) ms)
-        (lt-ltb (rank d (pick ms view)) (rank d (pick (set ms x true) view))
-        (omega (arith, h, largest-rank, rank-mask d ms view, rank-mask d (set ms x true) view, rank-bound d (mask (set ms x true) view) q Q)))
-
-    -- and that pairing is a largest one
-    pub next-largest : (x : ℕ) (q : List ℕ) → Pairing d (mask (set ms x true) view) q → size p < size q → Largest d (mask (set ms x true) view) q
-    next-largest x q Q h r R = omega (arith, h, largest-rank, rank-step-masked ms x, rank-bound d (mask (set ms x true) view) r R)
-
-    -- the pairing at hand is still a largest one with row x: x is not kept
-    pub next-passed : (x : ℕ) → Largest d (mask (set ms x true) view) p → try d view ms x ≡ ms
-    unfolding try
-    next-passed x M =
-        let h = rank-met d (mask (set ms x true) view) in
-        ap (λ (b : Bool). cond b (set ms x true) ms)
-        (le-ltb (rank d (pick ms view)) (rank d (pick (set ms x true) view))
-        (omega (arith, largest-rank, rank-mask d ms view, rank-mask d (set ms x true) view, h .2, M (h .0) (h .1))))
 
   -- ---- tries in turn
 
