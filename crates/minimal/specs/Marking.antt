@@ -56,7 +56,8 @@ pub record Candidate (rows : List ℕ) (j : ℕ) : Type 0 where
 abbrev pub Before : List ℕ → ℕ → ℕ → ℕ → Type 0
 Before rows k i j = (ones (at rows j) < k) ⊎ ((ones (at rows j) ≡ k) × (j < i))
 
--- The rows that are no candidates are judged, and so are the candidates before place i of those with k values. They have their marks, and the other rows none.
+-- The rows that are no candidates are judged, and so are the candidates before place i of those with k values.
+-- They have their marks, and the other rows none.
 pub record Marks (rows : List ℕ) (keep : List Bool) (k i : ℕ) : Type 0 where
   pub long : length keep ≡ length rows
   pub right : (j : ℕ) → j < length rows → (Candidate rows j → Before rows k i j) → marked keep j ≡ marked (firsts rows) j

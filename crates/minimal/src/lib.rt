@@ -8,7 +8,8 @@ ghost use Prim.Native.Nat.{zero, _+_, _≤_, _<_};
 ghost use lib.ListN.{length};
 ghost use Rattle.sets.specs.Limits.{mostInView, wordBits};
 ghost use Rattle.theory.specs.Kept.{firsts};
-ghost use Rattle.minimal.specs.Marking.{NoMarks, NoneEmpty, IsSingle, Singles, Marks, Scanned, tagWords, mostTags, tagOf, hasTag, withTag, ToTest, Repeats, Past, Chains, Sizes, Sieve};
+ghost use Rattle.minimal.specs.Marking.{NoMarks, NoneEmpty, IsSingle, Singles, Marks, Scanned, Repeats, Past, Chains, Sizes, Sieve};
+ghost use Rattle.minimal.specs.Marking.{tagWords, mostTags, tagOf, hasTag, withTag, ToTest};
 
 // How many sizes a row can have: from 0 values to all the bits of a word.
 const SIZES: usize = sets::BITS + 1;
@@ -45,7 +46,8 @@ fn mark_singles(rows: &[u64], keep: &mut [bool]) -> u64
     singles
 }
 
-// None of the first `found` rows of `mins` is a subset of x: each has a value that x has not. Four rows are tested at a time, and the rest one by one.
+// None of the first `found` rows of `mins` is a subset of x: each has a value that x has not.
+// Four rows are tested at a time, and the rest one by one.
 fn none_within(mins: &[u64], found: usize, x: u64) -> bool
     requires { ⌜ found ≤ length (now mins) ⌝ }
     ensures { λ r. ⌜ Scanned r (now (mins .entry)) found x ⌝ }
@@ -178,8 +180,8 @@ fn level(
 
 // Judges the rows that have no value of `singles`, few values first. `next` and `mins` are scratch places.
 fn sift(rows: &[u64], singles: u64, keep: &mut [bool], next: &mut [usize], mins: &mut [u64])
-    requires { ⌜ (length (now rows) ≤ mostInView) × NoneEmpty (now rows) × Singles (now rows) (length (now rows)) singles × Marks (now rows) (now keep) 0 0 ⌝ }
-    requires { ⌜ (length (now rows) ≤ length (now next)) × (length (now rows) ≤ length (now mins)) ⌝ }
+    requires { ⌜ (length (now rows) ≤ mostInView) × NoneEmpty (now rows) × Singles (now rows) (length (now rows)) singles ⌝ }
+    requires { ⌜ (length (now rows) ≤ length (now next)) × (length (now rows) ≤ length (now mins)) × Marks (now rows) (now keep) 0 0 ⌝ }
     ensures { λ _. ⌜ now (keep .exit) ≡ firsts (now (rows .entry)) ⌝ }
 {
     let mut head = [rows.len() as u16; SIZES];

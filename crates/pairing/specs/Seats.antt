@@ -59,8 +59,15 @@ pub record Sitting (s : Seats) (rows columns mates : List ℕ) : Type 0 where
 
 -- v has got a row, and the new row a seat
 abbrev pub taking : Seats → ℕ → ℕ → Seats
-taking s row v =
-    record { d = s .d; used = s .used + 1; entered = s .entered; free = minus (s .free) (single v); dead = s .dead; fresh = minus (s .fresh) row; heavy = bitOr (s .heavy) (single (s .used)) }
+taking s row v = record {
+  d = s .d;
+  used = s .used + 1;
+  entered = s .entered;
+  free = minus (s .free) (single v);
+  dead = s .dead;
+  fresh = minus (s .fresh) row;
+  heavy = bitOr (s .heavy) (single (s .used));
+}
 
 -- the row has got no seat: it holds dead values only, or no value is free
 pub record Passed (row : ℕ) (s : Seats) (rows : List ℕ) (s′ : Seats) (rows′ : List ℕ) : Type 0 where

@@ -37,7 +37,8 @@ pub fn ask_value(
     }
 }
 
-// Row i is asked to take v. A row without a mate takes it; a row that is taken asks its present value to move, which stays where it finds no other row.
+// Row i is asked to take v. A row without a mate takes it; a row that is taken asks its present value to move,
+// which stays where it finds no other row.
 pub fn ask_row(
     i: usize,
     v: usize,
@@ -63,7 +64,8 @@ pub fn ask_row(
     false
 }
 
-// The values of `free`, which have no rows, ask one after another until one has got a row. Answers that value, or `sets::BITS`, which is no value; `asked` starts empty.
+// The values of `free`, which have no rows, ask one after another until one has got a row. Answers that value, or `sets::BITS`,
+// which is no value; `asked` starts empty.
 pub fn search(
     free: u64,
     rows: &[u64],

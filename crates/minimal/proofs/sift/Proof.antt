@@ -33,7 +33,7 @@ loop-holds : tie.Need-loop-holds Inv-loop μ-loop
 loop-holds c =
     let o = c .before .before .before .chain in
     let e = c .before .before .before .before .before .before .before .before .before .before in
-    (levels-start (e .args .mins .now) (o .ensures .1) (e .pre .0 .3), refl)
+    (levels-start (e .args .mins .now) (o .ensures .1) (e .pre .1 .2), refl)
 
 lowest-requires : tie.Need-lowest-requires Inv-loop μ-loop
 lowest-requires c κs = search needs
@@ -76,7 +76,7 @@ same-length : tie.Need-same-length Inv-loop μ-loop
 same-length c =
     let l = c .before in
     let e = c .before .before .before .before .before .before .before .before .before .before .before .before in
-    l .loop .inv .0 .sieve .marks .long ∙ sym (e .pre .0 .3 .long)
+    l .loop .inv .0 .sieve .marks .long ∙ sym (e .pre .1 .2 .long)
 
 same-length-2 : tie.Need-same-length-2 Inv-loop μ-loop
 same-length-2 c = c .before .before .before .before .before .chain .kept .1 .1 .0
