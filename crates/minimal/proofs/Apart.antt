@@ -1,4 +1,5 @@
--- Sets with and without a value in common; the rows that have no value of `singles` are the clear ones, and those that differ from the row before are candidates. Assumes nothing.
+-- Sets with and without a value in common;
+-- the rows that have no value of `singles` are the clear ones, and those that differ from the row before are candidates. Assumes nothing.
 use Prim.Native.Nat.{ℕ, zero, suc, _≤_}
 use mathlib.Core.Path.{_≡_, refl, sym, ap, _∙_, subst}
 use mathlib.Core.Logic.{_≢_, _⊎_, inl, inr}

@@ -30,7 +30,9 @@ low-le a b f = elim (true-or-false (has a zero)) [
 ]
 
 fewer : (b a : ℕ) → Inside a b → a ≢ b → ones a < ones b
-fewer = bin-ind (λ (b : ℕ). (a : ℕ) → Inside a b → a ≢ b → ones a < ones b) (λ a f ne. absurd (ne (set-antisym a zero f (λ v h. absurd (not-both h (has-empty v)))))) step
+fewer =
+    bin-ind (λ (b : ℕ). (a : ℕ) → Inside a b → a ≢ b → ones a < ones b)
+    (λ a f ne. absurd (ne (set-antisym a zero f (λ v h. absurd (not-both h (has-empty v)))))) step
   where
     step : (b : ℕ) → ((a : ℕ) → Inside a (b / 2) → a ≢ b / 2 → ones a < ones (b / 2)) → (a : ℕ) → Inside a b → a ≢ b → ones a < ones b
     step b half a f ne = elim (ℕ-discrete (a / 2) (b / 2)) [
@@ -57,7 +59,8 @@ marked-most (m ∷ ms) [] = omega arith
 marked-most (true ∷ ms) (r ∷ rows) = let h : length (pick ms rows) ≤ length rows = marked-most ms rows in omega arith
 marked-most (false ∷ ms) (r ∷ rows) = let h : length (pick ms rows) ≤ length rows = marked-most ms rows in omega arith
 
-pub marked-more : (ms : List Bool) (rows : List ℕ) (i : ℕ) → i < length ms → i < length rows → marked ms i ≡ false → length (pick (set ms i true) rows) ≡ suc (length (pick ms rows))
+pub marked-more : (ms : List Bool) (rows : List ℕ) (i : ℕ) → i < length ms → i < length rows → marked ms i ≡ false
+    → length (pick (set ms i true) rows) ≡ suc (length (pick ms rows))
 unfolding pick
 marked-more [] rows i h l e = absurd (not-suc-le-zero h)
 marked-more (m ∷ ms) [] i h l e = absurd (not-suc-le-zero l)

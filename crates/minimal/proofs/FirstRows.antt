@@ -41,7 +41,8 @@ unfolding among
 among-out [] x e = absurd (false≢true e)
 among-out (y ∷ l) x e = go (λ k. among-out l x k) (or-cases (eqb x y) (among x l) e)
   where
-    go : (among x l ≡ true → (j : ℕ) × (j < length l) × (at l j ≡ x)) → (eqb x y ≡ true) ⊎ (among x l ≡ true) → (j : ℕ) × (j < suc (length l)) × (at (y ∷ l) j ≡ x)
+    go : (among x l ≡ true → (j : ℕ) × (j < length l) × (at l j ≡ x)) → (eqb x y ≡ true) ⊎ (among x l ≡ true)
+        → (j : ℕ) × (j < suc (length l)) × (at (y ∷ l) j ≡ x)
     go rec (inl p) = (zero, omega arith, sym (eqb-true x y p))
     go rec (inr q) = let t = rec q in (suc (t .0), omega (arith, t .1), t .2)
 
@@ -58,7 +59,9 @@ module _ (rows : List ℕ) (i : ℕ) (h : i < length rows) where
   before = let l : i ≤ length rows = omega arith in length-take-le i rows l
 
   pub first-yes : ((j : ℕ) → j < length rows → Strikes rows j i → ⊥) → marked (firsts rows) i ≡ true
-  first-yes spared = firsts-at rows i h ∙ and-both (minimal rows (at rows i)) (not (among (at rows i) (take i rows))) least (false-not (among (at rows i) (take i rows)) new)
+  first-yes spared =
+      firsts-at rows i h
+      ∙ and-both (minimal rows (at rows i)) (not (among (at rows i) (take i rows))) least (false-not (among (at rows i) (take i rows)) new)
     where
       least : minimal rows (at rows i) ≡ true
       least = elim (minimal? rows (at rows i)) [
@@ -75,9 +78,12 @@ module _ (rows : List ℕ) (i : ℕ) (h : i < length rows) where
           spared (t .0) (omega arith) (equal-strikes rows (t .0) i (sym (getD-take i rows (t .0) zero l) ∙ t .2) l))
 
   pub first-no : (j : ℕ) → j < length rows → Strikes rows j i → marked (firsts rows) i ≡ false
-  first-no j l (inside, earlier) = firsts-at rows i h ∙ is-false (minimal rows (at rows i) && not (among (at rows i) (take i rows))) (λ e. go e (true-or-false (proper (at rows j) (at rows i))))
+  first-no j l (inside, earlier) =
+      firsts-at rows i h
+      ∙ is-false (minimal rows (at rows i) && not (among (at rows i) (take i rows))) (λ e. go e (true-or-false (proper (at rows j) (at rows i))))
     where
-      go : (minimal rows (at rows i) && not (among (at rows i) (take i rows))) ≡ true → (proper (at rows j) (at rows i) ≡ true) ⊎ (proper (at rows j) (at rows i) ≡ false) → ⊥
+      go : (minimal rows (at rows i) && not (among (at rows i) (take i rows))) ≡ true
+          → (proper (at rows j) (at rows i) ≡ true) ⊎ (proper (at rows j) (at rows i) ≡ false) → ⊥
       go e (inl p) = not-both p (minimal-at rows (at rows i) j l (and-left (minimal rows (at rows i)) (not (among (at rows i) (take i rows))) e))
       go e (inr p) =
           let same = subset-same (at rows j) (at rows i) inside p in

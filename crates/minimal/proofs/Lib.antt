@@ -1,5 +1,7 @@
--- `Apart`: sets with no value in common, and clear rows. `FirstRows`: which rows the first step marks, said by place. `Counts`: a proper subset has fewer values, and how many rows are marked.
--- `SingleRows`: the rows of one value. `Links`: the chains. `Scans`: the tests for a subset. `Tags`: equal rows have one tag. `Sifting`: the rows of the chains are judged.
+-- `Apart`: sets with no value in common, and clear rows. `FirstRows`: which rows the first step marks, said by place.
+-- `Counts`: a proper subset has fewer values, and how many rows are marked.
+-- `SingleRows`: the rows of one value. `Links`: the chains. `Scans`: the tests for a subset. `Tags`: equal rows have one tag.
+-- `Sifting`: the rows of the chains are judged.
 pub mod Apart
 pub mod FirstRows
 pub mod Counts

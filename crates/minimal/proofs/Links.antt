@@ -21,7 +21,8 @@ use Rattle.minimal.specs.Marking.{Candidate, InChain, FirstFrom, Past, C
 pub heads-past : (rows : List ℕ) → Past rows (replicate (wordBits + 1) (length rows))
 heads-past rows k h = omega (arith, getD-replicate (wordBits + 1) k (length rows) zero (omega arith))
 
-pub chains-start : (rows next head : List ℕ) → length rows ≤ length next → length head ≡ wordBits + 1 → Past rows head → Chains rows next head (length rows)
+pub chains-start : (rows next head : List ℕ) → length rows ≤ length next → length head ≡ wordBits + 1 → Past rows head
+    → Chains rows next head (length rows)
 chains-start rows next head l w past = record {
   long = l;
   wide = w;
@@ -77,7 +78,8 @@ module _ (rows : List ℕ) (t u : ℕ) (e : t ≡ u + 1) where
   }
 
   -- row u is a candidate
-  module _ (next head : List ℕ) (C : Chains rows next head t) (h : u < length rows) (judge : Candidate rows u) (few : ones (at rows u) ≤ wordBits) where
+  module _ (next head : List ℕ) (C : Chains rows next head t) (h : u < length rows) (judge : Candidate rows u)
+      (few : ones (at rows u) ≤ wordBits) where
     abbrev n : ℕ
     n = ones (at rows u)
 
@@ -88,10 +90,14 @@ module _ (rows : List ℕ) (t u : ℕ) (e : t ≡ u + 1) where
     head′ = set head (ones (at rows u)) u
 
     link-here : FirstFrom rows n (u + 1) (at next′ u)
-    link-here = subst (FirstFrom rows n (u + 1)) (sym (at-same next u (at head n) (omega (arith, C .long)))) (subst (λ (k : ℕ). FirstFrom rows n k (at head n)) e (C .heads n few))
+    link-here =
+        subst (FirstFrom rows n (u + 1)) (sym (at-same next u (at head n) (omega (arith, C .long))))
+        (subst (λ (k : ℕ). FirstFrom rows n k (at head n)) e (C .heads n few))
 
     head-here : FirstFrom rows n u (at head′ n)
-    head-here = subst (FirstFrom rows n u) (sym (at-same head n u (omega (arith, C .wide)))) (record { from = omega arith; gap = λ j a b l. absurd (omega arith); hit = λ _. (judge, refl) })
+    head-here =
+        subst (FirstFrom rows n u) (sym (at-same head n u (omega (arith, C .wide))))
+        (record { from = omega arith; gap = λ j a b l. absurd (omega arith); hit = λ _. (judge, refl) })
 
     pub chains-more : Chains rows next′ head′ u
     chains-more = record {

@@ -32,9 +32,12 @@ four mins others n = ((hit mins others n || hit mins others (n + 1)) || hit mins
 pub record Tells (mins : List ℕ) (others x : ℕ) : Type 0 where
   pub within : (m : ℕ) → m < length mins → hit mins others m ≡ subset (at mins m) x
 
-pub tells : (k : ℕ) (mins : List ℕ) (all others x : ℕ) → ((m : ℕ) → m < length mins → at mins m < 2 ^ k) → all ≡ 2 ^ k - 1 → others ≡ minus all x → Tells mins others x
+pub tells : (k : ℕ) (mins : List ℕ) (all others x : ℕ) → ((m : ℕ) → m < length mins → at mins m < 2 ^ k) → all ≡ 2 ^ k - 1
+    → others ≡ minus all x → Tells mins others x
 tells k mins all others x words a o =
-    record { within = λ m l. ap (λ (y : ℕ). eqb (bitAnd (at mins m) y) zero) (o ∙ ap (λ (y : ℕ). minus y x) a) ∙ subset-outside k (at mins m) x (words m l) }
+    record {
+      within = λ m l. ap (λ (y : ℕ). eqb (bitAnd (at mins m) y) zero) (o ∙ ap (λ (y : ℕ). minus y x) a) ∙ subset-outside k (at mins m) x (words m l);
+    }
 
 module _ {mins : List ℕ} {others x : ℕ} (t : Tells mins others x) where
   -- ---- one row
@@ -43,7 +46,8 @@ module _ {mins : List ℕ} {others x : ℕ} (t : Tells mins others x) where
   found-at found m l h e = record { none = λ t. absurd (false≢true t); some = λ _. (m, l, sym (t .within m (omega arith)) ∙ e) }
 
   more : (n n′ : ℕ) → n′ ≡ n + 1 → n < length mins → NoneWithin mins n x → hit mins others n ≡ false → NoneWithin mins n′ x
-  more n n′ q l none e m h = elim (ℕ-discrete m n) [ yes d ↦ ap (λ (y : ℕ). subset (at mins y) x) d ∙ sym (t .within n l) ∙ e | no ne ↦ none m (omega arith) ]
+  more n n′ q l none e m h =
+      elim (ℕ-discrete m n) [ yes d ↦ ap (λ (y : ℕ). subset (at mins y) x) d ∙ sym (t .within n l) ∙ e | no ne ↦ none m (omega arith) ]
 
   pub scan-some : (found m : ℕ) → m < found → found ≤ length mins → bitAnd (at mins m) others ≡ zero → Scanned false mins found x
   scan-some found m l h e = found-at found m l h (eq-eqb (bitAnd (at mins m) others) zero e)

@@ -1,4 +1,5 @@
--- The candidates are judged by how many values they have, few values first, and in view order among equals: what could strike a row out is judged before. Assumes nothing.
+-- The candidates are judged by how many values they have, few values first, and in view order among equals:
+-- what could strike a row out is judged before. Assumes nothing.
 use Prim.Native.Nat.{ℕ, zero, _+_, _-_, _^_, _≤_, _<_}
 use mathlib.Core.Path.{_≡_, refl, sym, ap, _∙_, subst}
 use mathlib.Core.Logic.{_≢_, _⊎_, inl, inr}
@@ -42,7 +43,8 @@ before-same : (rows : List ℕ) (k i f j : ℕ) → f ≤ j → at rows f ≡ at
 before-same rows k i f j h e (inl l) = let q : ones (at rows f) ≡ ones (at rows j) = ap ones e in inl (omega arith)
 before-same rows k i f j h e (inr l) = inr (ap ones e ∙ l .0, omega (arith, l .1))
 
-module _ {rows : List ℕ} {keep : List Bool} {mins : List ℕ} {found k i : ℕ} (S : Sieve rows keep mins found k i) (h : i < length rows) (C : InChain rows k i) where
+module _ {rows : List ℕ} {keep : List Bool} {mins : List ℕ}
+    {found k i : ℕ} (S : Sieve rows keep mins found k i) (h : i < length rows) (C : InChain rows k i) where
   here : Before rows k (i + 1) i
   here = inr (C .1, omega arith)
 
@@ -72,7 +74,8 @@ module _ {rows : List ℕ} {keep : List Bool} {mins : List ℕ} {found k i : ℕ
   before-strikes j inside (inr l) = (inside, λ _. l .1)
 
   -- row i is judged
-  marks-more : (keep′ : List Bool) → length keep′ ≡ length rows → marked keep′ i ≡ marked (firsts rows) i → ((j : ℕ) → j ≢ i → marked keep′ j ≡ marked keep j) → Marks rows keep′ k (i + 1)
+  marks-more : (keep′ : List Bool) → length keep′ ≡ length rows → marked keep′ i ≡ marked (firsts rows) i
+      → ((j : ℕ) → j ≢ i → marked keep′ j ≡ marked keep j) → Marks rows keep′ k (i + 1)
   marks-more keep′ l new old = record {
     long = l;
     right = λ j a judged. elim (ℕ-discrete j i) [
@@ -103,7 +106,8 @@ module _ {rows : List ℕ} {keep : List Bool} {mins : List ℕ} {found k i : ℕ
           first-no rows i h (t .0) (t .1) (before-strikes (t .0) (subst (λ (x : ℕ). subset x (at rows i) ≡ true) (t .3) (some .2)) (t .2))
 
   -- none is
-  sieve-hit : NoneWithin mins found (at rows i) → found < length mins → Sieve rows (set keep i true) (set mins found (at rows i)) (found + 1) k (i + 1)
+  sieve-hit : NoneWithin mins found (at rows i) → found < length mins
+      → Sieve rows (set keep i true) (set mins found (at rows i)) (found + 1) k (i + 1)
   sieve-hit none l = record {
     marks = marks-more (set keep i true) (length-set keep i true ∙ S .marks .long) (mark-same keep i (omega (arith, S .marks .long)) ∙ sym (first-yes rows i h spared)) (λ j ne. getD-set-other keep i j true false ne);
     room = omega (arith, S .room, one-more);
@@ -176,13 +180,16 @@ pub record Walk (rows : List ℕ) (keep : List Bool) (mins : List ℕ) (found k 
   pub sieve : Sieve rows keep mins found k i
   pub hit : i < length rows → InChain rows k i
 
-walk-from : {rows : List ℕ} {keep : List Bool} {mins : List ℕ} {found k i x : ℕ} → FirstFrom rows k i x → Sieve rows keep mins found k i → Walk rows keep mins found k x
+walk-from : {rows : List ℕ} {keep : List Bool} {mins : List ℕ} {found k i x : ℕ} → FirstFrom rows k i x → Sieve rows keep mins found k i
+    → Walk rows keep mins found k x
 walk-from F S = record { sieve = sieve-jump F S; hit = F .hit }
 
-pub walk-start : {rows next head : List ℕ} {keep : List Bool} {mins : List ℕ} {found k : ℕ} → Chains rows next head zero → k ≤ wordBits → Sieve rows keep mins found k zero → Walk rows keep mins found k (at head k)
+pub walk-start : {rows next head : List ℕ} {keep : List Bool} {mins : List ℕ} {found k : ℕ} → Chains rows next head zero → k ≤ wordBits
+    → Sieve rows keep mins found k zero → Walk rows keep mins found k (at head k)
 walk-start {k = k} C h S = walk-from (C .heads k h) S
 
-module _ {rows next head : List ℕ} (C : Chains rows next head zero) {keep : List Bool} {mins : List ℕ} {found k i : ℕ} (W : Walk rows keep mins found k i) (h : i < length rows) where
+module _ {rows next head : List ℕ} (C : Chains rows next head zero) {keep : List Bool} {mins : List ℕ}
+    {found k i : ℕ} (W : Walk rows keep mins found k i) (h : i < length rows) where
   link : FirstFrom rows k (i + 1) (at next i)
   link = let c = W .hit h in subst (λ (n : ℕ). FirstFrom rows n (i + 1) (at next i)) (c .1) (C .links i (omega arith) h (c .0))
 
@@ -195,7 +202,8 @@ module _ {rows next head : List ℕ} (C : Chains rows next head zero) {keep : Li
   pub walk-miss : SomeWithin mins found (at rows i) → Walk rows keep mins found k (at next i)
   walk-miss some = walk-from link (sieve-miss (W .sieve) h (W .hit h) some)
 
-  pub walk-hit : NoneWithin mins found (at rows i) → found < length mins → Walk rows (set keep i true) (set mins found (at rows i)) (found + 1) k (at next i)
+  pub walk-hit : NoneWithin mins found (at rows i) → found < length mins
+      → Walk rows (set keep i true) (set mins found (at rows i)) (found + 1) k (at next i)
   walk-hit none l = walk-from link (sieve-hit (W .sieve) h (W .hit h) none l)
 
 -- ---- from level to level
@@ -208,7 +216,8 @@ pub record Levels (rows : List ℕ) (keep : List Bool) (mins : List ℕ) (found 
   pub rest : (j : ℕ) → j < length rows → Candidate rows j → (ones (at rows j) < k) ⊎ (has left (ones (at rows j) - 1) ≡ true)
   pub far : (v : ℕ) → has left v ≡ true → k ≤ v + 1
 
-pub levels-start : {rows : List ℕ} {keep : List Bool} {sizes : ℕ} (mins : List ℕ) → Sizes rows zero sizes → Marks rows keep zero zero → Levels rows keep mins zero sizes
+pub levels-start : {rows : List ℕ} {keep : List Bool} {sizes : ℕ} (mins : List ℕ) → Sizes rows zero sizes → Marks rows keep zero zero
+    → Levels rows keep mins zero sizes
 levels-start {rows} mins Z M = record {
   k = zero;
   sieve = record { marks = M; room = omega arith; from = λ m l. absurd (not-suc-le-zero l); cover = λ j l c b. absurd (nothing j b) };
@@ -257,20 +266,23 @@ module _ {rows : List ℕ} {keep : List Bool} {mins : List ℕ} {found left : �
         back j l c (inl h) = elim (L .rest j l c) [ inl b ↦ inl b | inr t ↦ absurd (omega (arith, h, least (ones (at rows j) - 1) t, some-ones (at rows j) (full j l))) ]
 
     -- and then judged
-    pub level-judged : {keep′ : List Bool} {mins′ : List ℕ} {found′ : ℕ} (rest : ℕ) → rest ≡ minus left (single (trailingZeros wordBits left)) → Sieve rows keep′ mins′ found′ (v + 1 + 1) zero → Levels rows keep′ mins′ found′ rest
-    level-judged {keep′} {mins′} {found′} rest e S = subst (Levels rows keep′ mins′ found′) (sym (e ∙ ap (λ (x : ℕ). minus left (single x)) (sym is))) (record {
-      k = v + 1 + 1;
-      sieve = S;
-      word = minus-word wordBits left (single v) (L .word);
-      rest = λ j l c. elim (L .rest j l c) [
-        | inl h ↦ inl (omega (arith, h, L .far v (lowest .1)))
-        | inr h ↦ elim (true-or-false (has (single v) (ones (at rows j) - 1))) [
-          | inl q ↦ inl (omega (arith, single-only v (ones (at rows j) - 1) q))
-          | inr n ↦ inr (minus-in left (single v) (ones (at rows j) - 1) h n)
-        ]
-      ];
-      far = λ u h. let t = minus-out left (single v) u h in elim (ℕ-discrete u v) [
-        | yes q ↦ absurd (not-both (ap (has (single v)) q ∙ has-same v) (t .1))
-        | no other ↦ let l = least u (t .0) in omega (arith, other, l)
-      ];
-    })
+    pub level-judged : {keep′ : List Bool} {mins′ : List ℕ} {found′ : ℕ} (rest : ℕ)
+        → rest ≡ minus left (single (trailingZeros wordBits left)) → Sieve rows keep′ mins′ found′ (v + 1 + 1) zero
+        → Levels rows keep′ mins′ found′ rest
+    level-judged {keep′} {mins′} {found′} rest e S =
+        subst (Levels rows keep′ mins′ found′) (sym (e ∙ ap (λ (x : ℕ). minus left (single x)) (sym is))) (record {
+          k = v + 1 + 1;
+          sieve = S;
+          word = minus-word wordBits left (single v) (L .word);
+          rest = λ j l c. elim (L .rest j l c) [
+            | inl h ↦ inl (omega (arith, h, L .far v (lowest .1)))
+            | inr h ↦ elim (true-or-false (has (single v) (ones (at rows j) - 1))) [
+              | inl q ↦ inl (omega (arith, single-only v (ones (at rows j) - 1) q))
+              | inr n ↦ inr (minus-in left (single v) (ones (at rows j) - 1) h n)
+            ]
+          ];
+          far = λ u h. let t = minus-out left (single v) u h in elim (ℕ-discrete u v) [
+            | yes q ↦ absurd (not-both (ap (has (single v)) q ∙ has-same v) (t .1))
+            | no other ↦ let l = least u (t .0) in omega (arith, other, l)
+          ];
+        })

@@ -44,7 +44,8 @@ pass-start rows keep l none = record {
 
 -- a set of values of one row, which is not empty, is the row of that value
 within-single : (a v : ℕ) → a ≢ zero → subset a (single v) ≡ true → a ≡ single v
-within-single a v ne e = subset-antisym a (single v) e (has-subset (single v) a (λ u h. subst (λ (x : ℕ). has a x ≡ true) (sym same ∙ single-only v u h) (t .1)))
+within-single a v ne e =
+    subset-antisym a (single v) e (has-subset (single v) a (λ u h. subst (λ (x : ℕ). has a x ≡ true) (sym same ∙ single-only v u h) (t .1)))
   where
     t : (u : ℕ) × (has a u ≡ true)
     t = some-value a ne
@@ -118,7 +119,9 @@ module _ {rows : List ℕ} {keep : List Bool} {i s : ℕ} (P : Passed rows keep 
           | inr d ↦ let t = P .singles .from u d in (t .0, omega (arith, t .1), t .2)
         ];
         all = λ u t. elim (ℕ-discrete (t .0) i) [
-          | yes e ↦ has-or s (single v) u ∙ or-right (has s u) (has (single v) u) (ap (λ (x : ℕ). has x u) (sym q ∙ ap (at rows) (sym e) ∙ t .2) ∙ has-same u)
+          | yes e ↦
+              has-or s (single v) u
+              ∙ or-right (has s u) (has (single v) u) (ap (λ (x : ℕ). has x u) (sym q ∙ ap (at rows) (sym e) ∙ t .2) ∙ has-same u)
           | no ne ↦ with-old s v u (P .singles .all u (t .0, omega (arith, t .1), t .2))
         ];
       };
@@ -163,7 +166,8 @@ module _ {rows : List ℕ} {keep : List Bool} {s : ℕ} (P : Passed rows keep (l
 
       strikes : at rows j ≢ single (t .0) → Strikes rows (m .0) j
       strikes more = (
-        subst (λ (x : ℕ). subset x (at rows j) ≡ true) (sym (m .2)) (has-subset (single (t .0)) (at rows j) (λ u h. subst (λ (x : ℕ). has (at rows j) x ≡ true) (single-only (t .0) u h) (t .1))),
+        subst (λ (x : ℕ). subset x (at rows j) ≡ true) (sym (m .2))
+            (has-subset (single (t .0)) (at rows j) (λ u h. subst (λ (x : ℕ). has (at rows j) x ≡ true) (single-only (t .0) u h) (t .1))),
         λ e. absurd (more (sym e ∙ m .2)),
       )
 
@@ -174,7 +178,9 @@ module _ {rows : List ℕ} {keep : List Bool} {s : ℕ} (P : Passed rows keep (l
       | no ne ↦ common-right j l ne
       | yes z ↦ let clear = apart-clear rows s (P .singles) (at rows j) z in elim (repeats? rows j) [
         | inr new ↦ absurd (nothing j (judged (record { clear = clear; new = new })))
-        | inl r ↦ is-false (marked keep j) (several j l clear) ∙ sym (first-no rows j l (r .0) (omega (arith, r .1)) (equal-strikes rows (r .0) j (r .2) (omega (arith, r .1))))
+        | inl r ↦
+            is-false (marked keep j) (several j l clear)
+            ∙ sym (first-no rows j l (r .0) (omega (arith, r .1)) (equal-strikes rows (r .0) j (r .2) (omega (arith, r .1))))
       ]
     ];
     only = λ j l c t. absurd (several j l (c .clear) t);

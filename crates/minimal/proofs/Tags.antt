@@ -33,11 +33,15 @@ tag-small x = omega arith
 
 module _ (tags : List ℕ) (t : ℕ) (h : t / wordBits < length tags) where
   tag-new : hasTag (withTag tags t) t ≡ true
-  tag-new = ap (λ (x : ℕ). has x (t % wordBits)) (at-same tags (t / wordBits) (bitOr (at tags (t / wordBits)) (single (t % wordBits))) h) ∙ with-new (at tags (t / wordBits)) (t % wordBits)
+  tag-new =
+      ap (λ (x : ℕ). has x (t % wordBits)) (at-same tags (t / wordBits) (bitOr (at tags (t / wordBits)) (single (t % wordBits))) h)
+      ∙ with-new (at tags (t / wordBits)) (t % wordBits)
 
   tag-old : (u : ℕ) → hasTag tags u ≡ true → hasTag (withTag tags t) u ≡ true
   tag-old u e = elim (stored tags (t / wordBits) (bitOr (at tags (t / wordBits)) (single (t % wordBits))) (u / wordBits) h) [
-    | inl s ↦ ap (λ (x : ℕ). has x (u % wordBits)) (s .1) ∙ with-old (at tags (t / wordBits)) (t % wordBits) (u % wordBits) (ap (λ (x : ℕ). has (at tags x) (u % wordBits)) (sym (s .0)) ∙ e)
+    | inl s ↦
+        ap (λ (x : ℕ). has x (u % wordBits)) (s .1)
+        ∙ with-old (at tags (t / wordBits)) (t % wordBits) (u % wordBits) (ap (λ (x : ℕ). has (at tags x) (u % wordBits)) (sym (s .0)) ∙ e)
     | inr s ↦ ap (λ (x : ℕ). has x (u % wordBits)) (s .1) ∙ e
   ]
 
@@ -49,7 +53,11 @@ tagged-start mins found k tags wide = record { wide = wide; least = omega arith;
 module _ {mins : List ℕ} {base found k : ℕ} {tags : List ℕ} (T : Tagged mins base found k tags) (x : ℕ) (c : ones x ≡ k) where
   -- x is found
   pub tagged-more : found < length mins → Tagged (set mins found x) base (found + 1) k (withTag tags (tagOf x))
-  tagged-more h = record { wide = length-set tags (tagOf x / wordBits) (bitOr (at tags (tagOf x / wordBits)) (single (tagOf x % wordBits))) ∙ T .wide; least = omega (arith, T .least); same = λ m a b. elim (ℕ-discrete m found) [ yes e ↦ new m e | no ne ↦ old m a ne b ] }
+  tagged-more h = record {
+    wide = length-set tags (tagOf x / wordBits) (bitOr (at tags (tagOf x / wordBits)) (single (tagOf x % wordBits))) ∙ T .wide;
+    least = omega (arith, T .least);
+    same = λ m a b. elim (ℕ-discrete m found) [ yes e ↦ new m e | no ne ↦ old m a ne b ];
+  }
     where
       inside : tagOf x / wordBits < length tags
       inside = omega (arith, tag-small x, T .wide)
@@ -59,7 +67,8 @@ module _ {mins : List ℕ} {base found k : ℕ} {tags : List ℕ} (T : Tagged mi
           let is : at (set mins found x) m ≡ x = ap (at (set mins found x)) e ∙ at-same mins found x h in
           (ap ones is ∙ c, ap (λ (y : ℕ). hasTag (withTag tags (tagOf x)) (tagOf y)) is ∙ tag-new tags (tagOf x) inside)
 
-      old : (m : ℕ) → base ≤ m → m ≢ found → m < found + 1 → (ones (at (set mins found x) m) ≡ k) × (hasTag (withTag tags (tagOf x)) (tagOf (at (set mins found x) m)) ≡ true)
+      old : (m : ℕ) → base ≤ m → m ≢ found → m < found + 1
+          → (ones (at (set mins found x) m) ≡ k) × (hasTag (withTag tags (tagOf x)) (tagOf (at (set mins found x) m)) ≡ true)
       old m a ne b =
           let is : at (set mins found x) m ≡ at mins m = at-other mins found x m ne in
           let t = T .same m a (omega arith) in

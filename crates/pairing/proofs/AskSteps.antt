@@ -1,4 +1,5 @@
--- What each step of the search shows: a free row takes the value; a taken row asks its present value; a value goes through the rows that hold it. Assumes nothing.
+-- What each step of the search shows: a free row takes the value; a taken row asks its present value;
+-- a value goes through the rows that hold it. Assumes nothing.
 use Prim.Native.Nat.{ℕ, zero, suc, _+_, _-_, _^_, _≤_, _<_}
 use mathlib.Core.Path.{_≡_, refl, sym, ap, _∙_, subst}
 use mathlib.Core.Logic.{_≢_, _⊎_, inl, inr}
@@ -32,7 +33,8 @@ unfolding unasked
 unasked-less-or-same zero a b sub = omega arith
 unasked-less-or-same (suc n) a b sub = go (has a n) (has b n) (sub n) (unasked-less-or-same n a b sub)
   where
-    go : (x y : Bool) → (x ≡ true → y ≡ true) → unasked n b ≤ unasked n a → cond y (unasked n b) (suc (unasked n b)) ≤ cond x (unasked n a) (suc (unasked n a))
+    go : (x y : Bool) → (x ≡ true → y ≡ true) → unasked n b ≤ unasked n a
+        → cond y (unasked n b) (suc (unasked n b)) ≤ cond x (unasked n a) (suc (unasked n a))
     go true true f h = h
     go true false f h = absurd (false≢true (f refl))
     go false true f h = omega arith
@@ -47,12 +49,14 @@ unasked-falls (suc n) a b i h f t sub = elim (ℕ-discrete i n) [
   | no ne ↦ rest (has a n) (has b n) (sub n) (unasked-falls n a b i (omega arith) f t sub)
 ]
   where
-    here : (x y : Bool) → x ≡ false → y ≡ true → unasked n b ≤ unasked n a → cond y (unasked n b) (suc (unasked n b)) < cond x (unasked n a) (suc (unasked n a))
+    here : (x y : Bool) → x ≡ false → y ≡ true → unasked n b ≤ unasked n a
+        → cond y (unasked n b) (suc (unasked n b)) < cond x (unasked n a) (suc (unasked n a))
     here true y p q l = absurd (true≢false p)
     here false true p q l = omega arith
     here false false p q l = absurd (false≢true q)
 
-    rest : (x y : Bool) → (x ≡ true → y ≡ true) → unasked n b < unasked n a → cond y (unasked n b) (suc (unasked n b)) < cond x (unasked n a) (suc (unasked n a))
+    rest : (x y : Bool) → (x ≡ true → y ≡ true) → unasked n b < unasked n a
+        → cond y (unasked n b) (suc (unasked n b)) < cond x (unasked n a) (suc (unasked n a))
     rest true true g l = l
     rest true false g l = absurd (false≢true (g refl))
     rest false true g l = omega arith
@@ -60,7 +64,8 @@ unasked-falls (suc n) a b i h f t sub = elim (ℕ-discrete i n) [
 
 -- ---- row i is asked to take v
 
-module _ (v : ℕ) (rows columns : List ℕ) (heavy : ℕ) (p : List ℕ) (A : Asks v rows columns heavy p) (i : ℕ) (h : i < length rows) (holds : has (at rows i) v ≡ true) where
+module _ (v : ℕ) (rows columns : List ℕ) (heavy : ℕ) (p : List ℕ) (A : Asks v rows columns heavy p) (i : ℕ) (h : i < length rows)
+    (holds : has (at rows i) v ≡ true) where
   P : Pairing mostValues rows p
   P = A .pairing
 
@@ -151,7 +156,8 @@ module _ (v : ℕ) (rows columns : List ℕ) (heavy : ℕ) (p : List ℕ) (A : A
               (k .0, at-other p i (suc v) (k .0) other ∙ k .1, k .2)) f
         ]
 
-    pub row-moved : (r : Bool) (asked : ℕ) (p′ : List ℕ) (asked′ : ℕ) → OfValue r w rows (set p i (v + 1)) asked p′ asked′ → r ≡ true → OfRow true i v rows p asked p′ asked′
+    pub row-moved : (r : Bool) (asked : ℕ) (p′ : List ℕ) (asked′ : ℕ) → OfValue r w rows (set p i (v + 1)) asked p′ asked′ → r ≡ true
+        → OfRow true i v rows p asked p′ asked′
     unfolding p₁
     row-moved r asked p′ asked′ O t = record {
       more = O .more;
@@ -161,7 +167,8 @@ module _ (v : ℕ) (rows columns : List ℕ) (heavy : ℕ) (p : List ℕ) (A : A
     }
 
     -- w has found none, and stays
-    pub row-stays : (r : Bool) (asked : ℕ) (p′ : List ℕ) (asked′ : ℕ) → has asked i ≡ true → OfValue r w rows (set p i (v + 1)) asked p′ asked′ → r ≡ false
+    pub row-stays : (r : Bool) (asked : ℕ) (p′ : List ℕ) (asked′ : ℕ) → has asked i ≡ true
+        → OfValue r w rows (set p i (v + 1)) asked p′ asked′ → r ≡ false
         → OfRow false i v rows p asked (set p′ i (at p i)) asked′
     row-stays r asked p′ asked′ a O f = record {
       more = O .more;
@@ -192,7 +199,8 @@ pub record Turn (v : ℕ) (rows p : List ℕ) (asked : ℕ) (p′ : List ℕ) (a
   pub inside : (i : ℕ) → has left i ≡ true → i < length rows
 
 module _ (v : ℕ) (rows p : List ℕ) (asked : ℕ) where
-  pub turn-start : (columns : List ℕ) (heavy : ℕ) → Index rows columns heavy → bitOr (at columns v) heavy < 2 ^ wordBits → Turn v rows p asked p asked (bitOr (at columns v) heavy)
+  pub turn-start : (columns : List ℕ) (heavy : ℕ) → Index rows columns heavy → bitOr (at columns v) heavy < 2 ^ wordBits
+      → Turn v rows p asked p asked (bitOr (at columns v) heavy)
   turn-start columns heavy X word = record {
     word = word;
     more = λ i t. t;

@@ -1,4 +1,5 @@
--- What a row more does to the seats: it gets a seat, or the values that no search reached are dead; and a row of dead values makes no pairing larger. Assumes nothing.
+-- What a row more does to the seats: it gets a seat, or the values that no search reached are dead;
+-- and a row of dead values makes no pairing larger. Assumes nothing.
 use Prim.Native.Nat.{ℕ, zero, suc, _+_, _≤_, _<_}
 use mathlib.Core.Path.{_≡_, refl, sym, ap, _∙_, subst}
 use mathlib.Core.Logic.{_⊎_, inl, inr}
@@ -24,7 +25,8 @@ use Rattle.pairing.specs.Asking.{Inside, Index, Shut, Asks, Searches, Gr
 use Rattle.pairing.specs.Seats.{seats, Unreached, Below, Bench, taking}
 use Rattle.pairing.proofs.AskSteps.{row-free}
 use Rattle.pairing.proofs.SeatColumns.{left-or-same}
-use Rattle.pairing.proofs.Snoc.{at-open, size-open, seated-open, open-seated, full-mate, row-last, holds-cases, holds-before, pairing-open, shut-open, index-open}
+use Rattle.pairing.proofs.Snoc.{at-open, size-open, seated-open, open-seated, full-mate, row-last, holds-cases, holds-before}
+use Rattle.pairing.proofs.Snoc.{pairing-open, shut-open, index-open}
 
 -- a mate that is not dead
 aliveMate : ℕ → ℕ → Bool
@@ -79,7 +81,9 @@ module _ (s : Seats) (R columns p : List ℕ) (B : Bench s R columns p) where
         not-both (k .2 v (ap (λ (j : ℕ). has (at R j) v) same ∙ t)) n))
 
     dead-largest : Inside row (s .dead) → Largest mostValues (R ++ row ∷ []) (p ++ zero ∷ [])
-    dead-largest ins = failed-largest mostValues (R ++ row ∷ []) (p ++ zero ∷ []) (pairing-open R row p (B .pairing)) (λ i. aliveMate (s .dead) (at p i)) closed tried
+    dead-largest ins =
+        failed-largest mostValues (R ++ row ∷ []) (p ++ zero ∷ []) (pairing-open R row p (B .pairing))
+        (λ i. aliveMate (s .dead) (at p i)) closed tried
       where
         heard : (v : ℕ) → has (s .dead) v ≡ false → Heard mostValues (R ++ row ∷ []) (λ i. aliveMate (s .dead) (at p i)) v
         heard v n j inn = elim (holds-cases R row j v (inn .1)) [
@@ -87,7 +91,8 @@ module _ (s : Seats) (R columns p : List ℕ) (B : Bench s R columns p) where
           | inr e ↦ absurd (not-both (ins v (e .1)) n)
         ]
 
-        closed : (i : ℕ) → aliveMate (s .dead) (at p i) ≡ true → (w : ℕ) × (at (p ++ zero ∷ []) i ≡ suc w) × Heard mostValues (R ++ row ∷ []) (λ i. aliveMate (s .dead) (at p i)) w
+        closed : (i : ℕ) → aliveMate (s .dead) (at p i) ≡ true
+            → (w : ℕ) × (at (p ++ zero ∷ []) i ≡ suc w) × Heard mostValues (R ++ row ∷ []) (λ i. aliveMate (s .dead) (at p i)) w
         closed i a = let k = alive-out (s .dead) (at p i) a in (k .0, at-open p i ∙ k .1, heard (k .0) (k .2))
 
         tried : (v : ℕ) → v < mostValues → (Seated (p ++ zero ∷ []) v → ⊥) → Heard mostValues (R ++ row ∷ []) (λ i. aliveMate (s .dead) (at p i)) v
@@ -115,7 +120,8 @@ module _ (s : Seats) (R columns p : List ℕ) (B : Bench s R columns p) where
         B .free v (low v (and-left (has row v) (has (s .fresh) v) both)) (λ q.
         not-both (and-right (has row v) (has (s .fresh) v) both) (B .fresh (q .0) v (B .pairing .holds (q .0) v (q .1) .1)))
 
-    pub bench-more : (v : ℕ) → has (s .free) v ≡ true → (p′ : List ℕ) → Grown (R ++ row ∷ []) v (p ++ zero ∷ []) p′ → Bench (taking s row v) (R ++ row ∷ []) columns p′
+    pub bench-more : (v : ℕ) → has (s .free) v ≡ true → (p′ : List ℕ) → Grown (R ++ row ∷ []) v (p ++ zero ∷ []) p′
+        → Bench (taking s row v) (R ++ row ∷ []) columns p′
     bench-more v t p′ G = record {
       used = let e : length (R ++ row ∷ []) ≡ length R + 1 = length-append R (row ∷ []) in omega (arith, B .used);
       column = B .column;
@@ -176,10 +182,16 @@ module _ (s : Seats) (R columns p : List ℕ) (B : Bench s R columns p) where
     from = minus (s .free) (minus (s .fresh) row)
 
     pub search-part : {rows columns′ p₀ : List ℕ} {heavy′ : ℕ} → Searches (s .free) rows columns′ heavy′ p₀ → Searches from rows columns′ heavy′ p₀
-    search-part S = record { few = S .few; index = S .index; pairing = S .pairing; new = λ v t. S .new v (minus-out (s .free) (minus (s .fresh) row) v t .0) }
+    search-part S = record {
+      few = S .few;
+      index = S .index;
+      pairing = S .pairing;
+      new = λ v t. S .new v (minus-out (s .free) (minus (s .fresh) row) v t .0);
+    }
 
     -- is one from all of them
-    pub search-all : {r : ℕ} {p₀ p′ : List ℕ} {asked : ℕ} → OfSearch r from (R ++ row ∷ []) p₀ p′ asked → OfSearch r (s .free) (R ++ row ∷ []) p₀ p′ asked
+    pub search-all : {r : ℕ} {p₀ p′ : List ℕ} {asked : ℕ} → OfSearch r from (R ++ row ∷ []) p₀ p′ asked
+        → OfSearch r (s .free) (R ++ row ∷ []) p₀ p′ asked
     search-all {r} {p₀} {p′} {asked} O = record {
       found = λ h. let k = O .found h in (minus-out (s .free) (minus (s .fresh) row) r (k .0) .0, k .1);
       still = O .still;
@@ -192,7 +204,8 @@ module _ (s : Seats) (R columns p : List ℕ) (B : Bench s R columns p) where
 
     -- ---- a search has failed
 
-    module _ (r : ℕ) (p′ : List ℕ) (asked dead′ : ℕ) (O : OfSearch r (s .free) (R ++ row ∷ []) (p ++ zero ∷ []) p′ asked) (none : wordBits ≤ r) (D : Unreached asked p dead′) where
+    module _ (r : ℕ) (p′ : List ℕ) (asked dead′ : ℕ) (O : OfSearch r (s .free) (R ++ row ∷ []) (p ++ zero ∷ []) p′ asked)
+        (none : wordBits ≤ r) (D : Unreached asked p dead′) where
       -- the values of a row that was not asked are those that no question reached
       unasked-dead : (j v : ℕ) → has asked j ≡ false → has (at (R ++ row ∷ []) j) v ≡ true → has dead′ v ≡ true
       unasked-dead j v n t = elim (seated? p v) [
@@ -222,4 +235,15 @@ module _ (s : Seats) (R columns p : List ℕ) (B : Bench s R columns p) where
   pub bench-other : (columns′ : List ℕ) (entered′ heavy′ dead′ : ℕ) → Index R columns′ heavy′ → Shut R p dead′
       → Bench (record { d = s .d; used = s .used; entered = entered′; free = s .free; dead = dead′; fresh = s .fresh; heavy = heavy′ }) R columns′ p
   bench-other columns′ entered′ heavy′ dead′ X S =
-      record { used = B .used; column = B .column; pairing = B .pairing; full = B .full; small = B .small; new = B .new; free = B .free; shut = S; fresh = B .fresh; index = X }
+      record {
+        used = B .used;
+        column = B .column;
+        pairing = B .pairing;
+        full = B .full;
+        small = B .small;
+        new = B .new;
+        free = B .free;
+        shut = S;
+        fresh = B .fresh;
+        index = X;
+      }

@@ -98,7 +98,8 @@ module _ {row i : ℕ} {columns : List ℕ} where
             | inr s ↦ ap (λ (x : ℕ). has x j) (s .1) ∙ t
           ]
 
-      pub enter-next : length columns ≡ mostValues → (rest put : ℕ) → rest ≡ minus left (single (trailingZeros wordBits left)) → put ≡ bitOr (at columns′ v) (single i) → Entering row i columns (set columns′ v put) rest
+      pub enter-next : length columns ≡ mostValues → (rest put : ℕ) → rest ≡ minus left (single (trailingZeros wordBits left))
+          → put ≡ bitOr (at columns′ v) (single i) → Entering row i columns (set columns′ v put) rest
       enter-next wide rest put e f =
           subst (Entering row i columns (set columns′ v put)) (sym (left-now rest e))
           (subst (λ (x : ℕ). Entering row i columns (set columns′ v x) (minus left (single v))) (sym f) (next wide))
@@ -106,23 +107,27 @@ module _ {row i : ℕ} {columns : List ℕ} where
 -- ---- the index
 
 -- row i has been entered, and need not be heavy any more
-pub index-entered : (rows columns columns′ : List ℕ) (heavy i : ℕ) → Index rows columns heavy → i < length rows → Entered (at rows i) i columns columns′ → Index rows columns′ (minus heavy (single i))
+pub index-entered : (rows columns columns′ : List ℕ) (heavy i : ℕ) → Index rows columns heavy → i < length rows
+    → Entered (at rows i) i columns columns′ → Index rows columns′ (minus heavy (single i))
 index-entered rows columns columns′ heavy i X h E = record { wide = E .wide ∙ X .wide; complete = complete; inside = inside }
   where
     complete : (j v : ℕ) → has (at rows j) v ≡ true → has (bitOr (at columns′ v) (minus heavy (single i))) j ≡ true
     complete j v t = has-or (at columns′ v) (minus heavy (single i)) j ∙ elim (or-cases (has (at columns v) j) (has heavy j) (sym (has-or (at columns v) heavy j) ∙ X .complete j v t)) [
       | inl c ↦ or-left (has (at columns′ v) j) (has (minus heavy (single i)) j) (E .old j v c)
       | inr y ↦ elim (left-or-same heavy i j y) [
-        | inl s ↦ or-left (has (at columns′ v) j) (has (minus heavy (single i)) j) (ap (has (at columns′ v)) s ∙ E .new v (ap (λ (k : ℕ). has (at rows k) v) (sym s) ∙ t))
+        | inl s ↦
+            or-left (has (at columns′ v) j) (has (minus heavy (single i)) j)
+            (ap (has (at columns′ v)) s ∙ E .new v (ap (λ (k : ℕ). has (at rows k) v) (sym s) ∙ t))
         | inr m ↦ or-right (has (at columns′ v) j) (has (minus heavy (single i)) j) m
       ]
     ]
 
     inside : (j v : ℕ) → has (bitOr (at columns′ v) (minus heavy (single i))) j ≡ true → j < length rows
-    inside j v t = elim (or-cases (has (at columns′ v) j) (has (minus heavy (single i)) j) (sym (has-or (at columns′ v) (minus heavy (single i)) j) ∙ t)) [
-      | inl c ↦ elim (E .from j v c) [
-        | inl s ↦ omega (arith, s, h)
-        | inr o ↦ X .inside j v (has-or (at columns v) heavy j ∙ or-left (has (at columns v) j) (has heavy j) o)
-      ]
-      | inr m ↦ X .inside j v (has-or (at columns v) heavy j ∙ or-right (has (at columns v) j) (has heavy j) (minus-out heavy (single i) j m .0))
-    ]
+    inside j v t =
+        elim (or-cases (has (at columns′ v) j) (has (minus heavy (single i)) j) (sym (has-or (at columns′ v) (minus heavy (single i)) j) ∙ t)) [
+          | inl c ↦ elim (E .from j v c) [
+            | inl s ↦ omega (arith, s, h)
+            | inr o ↦ X .inside j v (has-or (at columns v) heavy j ∙ or-left (has (at columns v) j) (has heavy j) o)
+          ]
+          | inr m ↦ X .inside j v (has-or (at columns v) heavy j ∙ or-right (has (at columns v) j) (has heavy j) (minus-out heavy (single i) j m .0))
+        ]

@@ -22,7 +22,8 @@ use Rattle.theory.proofs.Places.{mate?}
 use Rattle.pairing.specs.declared.seats.Seats.{Seats}
 use Rattle.pairing.specs.Asking.{Inside, Index, Searches, Grown, OfSearch}
 use Rattle.pairing.specs.Seats.{seats, Mates, Unreached, Below, Bench, Sitting, taking, OfSeat}
-use Rattle.pairing.proofs.Benches.{seat-left, bench-more, bench-searches, bench-direct, search-part, search-all, failed-shut, failed-row, bench-other}
+use Rattle.pairing.proofs.Benches.{seat-left, bench-more, bench-searches, bench-direct, search-part, search-all, failed-shut}
+use Rattle.pairing.proofs.Benches.{failed-row, bench-other}
 
 module _ (row : ℕ) (s : Seats) (rows columns mates : List ℕ) (S : Sitting s rows columns mates) where
   -- the rows that sit, and their mates
@@ -51,7 +52,8 @@ module _ (row : ℕ) (s : Seats) (rows columns mates : List ℕ) (S : Sitting s 
     rows-old = take-set-le (s .used) rows (s .used) row (le-refl (s .used))
 
     -- the row has got the next seat, and the rows the mates p′
-    seat-more : (s₁ : Seats) (columns′ : List ℕ) (v : ℕ) (p′ mates′ : List ℕ) → s₁ .used ≡ s .used → s₁ .d ≡ s .d → Bench s₁ R columns′ p → has (s₁ .free) v ≡ true → Grown (R ++ row ∷ []) v (p ++ zero ∷ []) p′
+    seat-more : (s₁ : Seats) (columns′ : List ℕ) (v : ℕ) (p′ mates′ : List ℕ) → s₁ .used ≡ s .used → s₁ .d ≡ s .d → Bench s₁ R columns′ p
+        → has (s₁ .free) v ≡ true → Grown (R ++ row ∷ []) v (p ++ zero ∷ []) p′
         → length mates′ ≡ seats → take (s .used + 1) mates′ ≡ p′ → OfSeat row s rows (taking s₁ row v) (set rows (s .used) row) columns′ mates′
     seat-more s₁ columns′ v p′ mates′ same-used same-d B t G wide is = record {
       sits = record {
@@ -73,17 +75,21 @@ module _ (row : ℕ) (s : Seats) (rows columns mates : List ℕ) (S : Sitting s 
         mates-now = ap (λ (n : ℕ). take (n + 1) mates′) same-used ∙ is
 
     -- it takes a free value at once
-    pub seat-direct : (v : ℕ) → has (s .free) v ≡ true → has row v ≡ true → OfSeat row s rows (taking s row v) (set rows (s .used) row) columns (set mates (s .used) (v + 1))
+    pub seat-direct : (v : ℕ) → has (s .free) v ≡ true → has row v ≡ true
+        → OfSeat row s rows (taking s row v) (set rows (s .used) row) columns (set mates (s .used) (v + 1))
     seat-direct v t h =
-        seat-more s columns v (p ++ (v + 1) ∷ []) (set mates (s .used) (v + 1)) refl refl (S .bench) t (bench-direct s R columns p (S .bench) row low v t h)
+        seat-more s columns v (p ++ (v + 1) ∷ []) (set mates (s .used) (v + 1)) refl refl (S .bench) t
+        (bench-direct s R columns p (S .bench) row low v t h)
         (length-set mates (s .used) (v + 1) ∙ S .mates-wide) (mates-put (v + 1))
 
     -- ---- a search
 
     pub seek-index : (length (take (s .used) (set rows (s .used) row)) ≤ seats) × Index (take (s .used) (set rows (s .used) row)) columns (s .heavy)
-    seek-index = (omega (arith, ap length rows-old, S .bench .used), subst (λ (l : List ℕ). Index l columns (s .heavy)) (sym rows-old) (S .bench .index))
+    seek-index =
+        (omega (arith, ap length rows-old, S .bench .used), subst (λ (l : List ℕ). Index l columns (s .heavy)) (sym rows-old) (S .bench .index))
 
-    module _ (columns′ : List ℕ) (heavy′ : ℕ) (X : Index (take (s .used) (set rows (s .used) row)) columns′ heavy′) (from : ℕ) (is : from ≡ minus (s .free) (minus (s .fresh) row)) where
+    module _ (columns′ : List ℕ) (heavy′ : ℕ) (X : Index (take (s .used) (set rows (s .used) row)) columns′ heavy′) (from : ℕ)
+        (is : from ≡ minus (s .free) (minus (s .fresh) row)) where
       index : Index R columns′ heavy′
       index = subst (λ (l : List ℕ). Index l columns′ heavy′) rows-old X
 
@@ -93,20 +99,29 @@ module _ (row : ℕ) (s : Seats) (rows columns mates : List ℕ) (S : Sitting s 
 
       pub seek-searches : Searches from (take (s .used + 1) (set rows (s .used) row)) columns′ (bitOr heavy′ (single (s .used))) (take (s .used + 1) (set mates (s .used) zero))
       seek-searches =
-          subst (λ (l : List ℕ). Searches from l columns′ (bitOr heavy′ (single (s .used))) (take (s .used + 1) (set mates (s .used) zero))) (sym rows-put)
+          subst
+          (λ (l : List ℕ). Searches from l columns′ (bitOr heavy′ (single (s .used))) (take (s .used + 1) (set mates (s .used) zero))) (sym rows-put)
           (subst (Searches from (R ++ row ∷ []) columns′ (bitOr heavy′ (single (s .used)))) (sym (mates-put zero))
           (subst (λ (n : ℕ). Searches from (R ++ row ∷ []) columns′ (bitOr heavy′ (single n)) (p ++ zero ∷ [])) (S .bench .used)
           (subst (λ (f : ℕ). Searches f (R ++ row ∷ []) columns′ (bitOr heavy′ (single (length R))) (p ++ zero ∷ [])) (sym is)
           (search-part s R columns p (S .bench) row low (bench-searches s R columns p (S .bench) row low columns′ heavy′ (omega (arith, S .bench .used)) index)))))
 
-      module _ (v : ℕ) (p′ : List ℕ) (asked : ℕ) (O : OfSearch v from (take (s .used + 1) (set rows (s .used) row)) (take (s .used + 1) (set mates (s .used) zero)) p′ asked)
+      module _ (v : ℕ) (p′ : List ℕ) (asked : ℕ)
+          (O : OfSearch v from (take (s .used + 1) (set rows (s .used) row)) (take (s .used + 1) (set mates (s .used) zero)) p′ asked)
           (long : length p′ ≡ s .used + 1) where
         -- the mates when the search is over
         abbrev mates′ : List ℕ
         mates′ = p′ ++ drop (s .used + 1) (set mates (s .used) zero)
 
         pub seek-long : length mates′ ≡ seats
-        seek-long = omega (arith, length-append p′ (drop (s .used + 1) (set mates (s .used) zero)), length-drop (s .used + 1) (set mates (s .used) zero), length-set mates (s .used) zero, S .mates-wide, long)
+        seek-long = omega (
+          arith,
+          length-append p′ (drop (s .used + 1) (set mates (s .used) zero)),
+          length-drop (s .used + 1) (set mates (s .used) zero),
+          length-set mates (s .used) zero,
+          S .mates-wide,
+          long,
+        )
 
         plain : OfSearch v (s .free) (R ++ row ∷ []) (p ++ zero ∷ []) p′ asked
         plain =
@@ -117,7 +132,8 @@ module _ (row : ℕ) (s : Seats) (rows columns mates : List ℕ) (S : Sitting s 
         pub seek-found : v < wordBits → OfSeat row s rows (taking (s₁ (s .dead)) row v) (set rows (s .used) row) columns′ mates′
         seek-found h =
             let k = plain .found h in
-            seat-more (s₁ (s .dead)) columns′ v p′ mates′ refl refl (bench-other s R columns p (S .bench) columns′ (s .used) heavy′ (s .dead) index (S .bench .shut)) (k .0) (k .1) seek-long
+            seat-more (s₁ (s .dead)) columns′ v p′ mates′ refl refl
+            (bench-other s R columns p (S .bench) columns′ (s .used) heavy′ (s .dead) index (S .bench .shut)) (k .0) (k .1) seek-long
             (take-at p′ (drop (s .used + 1) (set mates (s .used) zero)) (s .used + 1) long)
 
         -- no value has got a row: the mates are as they were
@@ -134,7 +150,8 @@ module _ (row : ℕ) (s : Seats) (rows columns mates : List ℕ) (S : Sitting s 
             small = λ i. elim (mate? (at p i)) [ inl z ↦ omega (arith, z) | inr t ↦ omega (arith, t .1, S .bench .pairing .holds i (t .0) (t .1) .0) ];
           })
 
-          pub seek-lost : (dead : ℕ) → Unreached asked (take (s .used) mates′) dead → OfSeat row s rows (s₁ dead) (set rows (s .used) row) columns′ mates′
+          pub seek-lost : (dead : ℕ) → Unreached asked (take (s .used) mates′) dead
+              → OfSeat row s rows (s₁ dead) (set rows (s .used) row) columns′ mates′
           seek-lost dead D = record {
             sits = record {
               rows-wide = length-set rows (s .used) row ∙ S .rows-wide;
@@ -153,10 +170,12 @@ module _ (row : ℕ) (s : Seats) (rows columns mates : List ℕ) (S : Sitting s 
               plain-dead = subst (λ (l : List ℕ). Unreached asked l dead) mates-old D
 
 -- the lowest value that the row has in common with others
-pub near-value : (row free v : ℕ) → row < 2 ^ wordBits → v ≡ trailingZeros wordBits (bitAnd row free) → bitAnd row free ≢ zero → (v < mostValues) × (has free v ≡ true) × (has row v ≡ true)
+pub near-value : (row free v : ℕ) → row < 2 ^ wordBits → v ≡ trailingZeros wordBits (bitAnd row free) → bitAnd row free ≢ zero
+    → (v < mostValues) × (has free v ≡ true) × (has row v ≡ true)
 near-value row free v word is some = go (lowest-has wordBits (bitAnd row free) (omega (arith, and-le-l row free)) some)
   where
-    go : (trailingZeros wordBits (bitAnd row free) < wordBits) × (has (bitAnd row free) (trailingZeros wordBits (bitAnd row free)) ≡ true) → (v < mostValues) × (has free v ≡ true) × (has row v ≡ true)
+    go : (trailingZeros wordBits (bitAnd row free) < wordBits) × (has (bitAnd row free) (trailingZeros wordBits (bitAnd row free)) ≡ true)
+        → (v < mostValues) × (has free v ≡ true) × (has row v ≡ true)
     go (h, t) =
         let both : (has row v && has free v) ≡ true = sym (has-and row free v) ∙ ap (has (bitAnd row free)) is ∙ t in
         (omega arith, and-right (has row v) (has free v) both, and-left (has row v) (has free v) both)

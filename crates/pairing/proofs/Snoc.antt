@@ -61,7 +61,8 @@ module _ (R : List ℕ) (row : ℕ) where
   row-last = getD-append-seam R row [] zero
 
   -- a row that holds v is one of those before, or the last
-  pub holds-cases : (i v : ℕ) → has (at (R ++ row ∷ []) i) v ≡ true → ((i < length R) × (has (at R i) v ≡ true)) ⊎ ((i ≡ length R) × (has row v ≡ true))
+  pub holds-cases : (i v : ℕ) → has (at (R ++ row ∷ []) i) v ≡ true
+      → ((i < length R) × (has (at R i) v ≡ true)) ⊎ ((i ≡ length R) × (has row v ≡ true))
   holds-cases i v t = elim (decLt i (length R)) [
     | yes h ↦ inl (h, ap (λ (r : ℕ). has r v) (sym (row-before i h)) ∙ t)
     | no n ↦ elim (ℕ-discrete i (length R)) [
@@ -71,7 +72,8 @@ module _ (R : List ℕ) (row : ℕ) where
   ]
 
   holds-inside : (i v : ℕ) → has (at R i) v ≡ true → i < length R
-  holds-inside i v t = elim (decLt i (length R)) [ yes h ↦ h | no n ↦ absurd (not-both t (ap (λ (r : ℕ). has r v) (past R i (omega arith)) ∙ has-empty v)) ]
+  holds-inside i v t =
+      elim (decLt i (length R)) [ yes h ↦ h | no n ↦ absurd (not-both t (ap (λ (r : ℕ). has r v) (past R i (omega arith)) ∙ has-empty v)) ]
 
   pub holds-before : (i v : ℕ) → has (at R i) v ≡ true → has (at (R ++ row ∷ []) i) v ≡ true
   holds-before i v t = ap (λ (r : ℕ). has r v) (row-before i (holds-inside i v t)) ∙ t

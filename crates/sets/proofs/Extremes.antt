@@ -77,7 +77,9 @@ rest-has : (k n : ℕ) → n < 2 ^ k → n ≢ zero → (v : ℕ) → has (bitAn
 unfolding trailingZeros
 rest-has zero n h ne v = absurd (ne (omega arith))
 rest-has (suc k) n h ne v = elim (low-digit n) [
-  | inr e ↦ ap (λ (x : ℕ). has x v) (rest-odd n (e .0)) ∙ odd v (e .1) ∙ ap (λ (x : ℕ). has n v && not (eqb (under x (trailingZeros k (n / 2))) v)) (sym (e .0))
+  | inr e ↦
+      ap (λ (x : ℕ). has x v) (rest-odd n (e .0)) ∙ odd v (e .1)
+      ∙ ap (λ (x : ℕ). has n v && not (eqb (under x (trailingZeros k (n / 2))) v)) (sym (e .0))
   | inl e ↦
       ap (λ (x : ℕ). has x v) (rest-even n e ne)
       ∙ even v e (rest-has k (n / 2) (div-lt-iff-lt-mul (zero-lt-suc 1) .1 (rw pow-suc at h)) (λ z. ne (omega (arith, z, e))))
@@ -86,11 +88,14 @@ rest-has (suc k) n h ne v = elim (low-digit n) [
   where
     odd : (v : ℕ) → has n zero ≡ true → has (n / 2 * 2) v ≡ (has n v && not (eqb zero v))
     odd zero t = has-double-low (n / 2) ∙ sym (and-false (has n zero))
-    odd (suc v) t = has-double (n / 2) v ∙ sym (has-suc n v) ∙ sym (ap (λ (b : Bool). has n (suc v) && not b) (eqb·zero-suc v) ∙ and-true (has n (suc v)))
+    odd (suc v) t =
+        has-double (n / 2) v ∙ sym (has-suc n v) ∙ sym (ap (λ (b : Bool). has n (suc v) && not b) (eqb·zero-suc v) ∙ and-true (has n (suc v)))
 
     even : (v : ℕ) → n % 2 ≡ 0 → ((u : ℕ) → has (bitAnd (n / 2) (n / 2 - 1)) u ≡ (has (n / 2) u && not (eqb (trailingZeros k (n / 2)) u)))
         → has (bitAnd (n / 2) (n / 2 - 1) * 2) v ≡ (has n v && not (eqb (suc (trailingZeros k (n / 2))) v))
-    even zero e ih = has-double-low (bitAnd (n / 2) (n / 2 - 1)) ∙ sym (ap (λ (b : Bool). b && not (eqb (suc (trailingZeros k (n / 2))) zero)) (has-zero n ∙ ap (λ (x : ℕ). eqb x 1) e))
+    even zero e ih =
+        has-double-low (bitAnd (n / 2) (n / 2 - 1))
+        ∙ sym (ap (λ (b : Bool). b && not (eqb (suc (trailingZeros k (n / 2))) zero)) (has-zero n ∙ ap (λ (x : ℕ). eqb x 1) e))
     even (suc v) e ih =
         has-double (bitAnd (n / 2) (n / 2 - 1)) v ∙ ih v
         ∙ ap₂ (λ (a b : Bool). a && not b) (sym (has-suc n v)) (sym (eqb·suc-suc (trailingZeros k (n / 2)) v))

@@ -55,7 +55,8 @@ minus-subset a b = has-subset (minus a b) a (λ v h. minus-out a b v h .0)
 -- leaves a smaller number, so that a walk through a set ends
 pub without-less : (a v : ℕ) → has a v ≡ true → minus a (single v) < a
 unfolding proper
-without-less a v h = proper-less (minus a (single v)) a (and-both (subset (minus a (single v)) a) (not (eqb (minus a (single v)) a)) (minus-subset a (single v)) other)
+without-less a v h =
+    proper-less (minus a (single v)) a (and-both (subset (minus a (single v)) a) (not (eqb (minus a (single v)) a)) (minus-subset a (single v)) other)
   where
     other : not (eqb (minus a (single v)) a) ≡ true
     other = ap not (ne-eqb (minus a (single v)) a (λ e. not-both (has-same v) (minus-out a (single v) v (ap (λ (x : ℕ). has x v) e ∙ h) .1)))

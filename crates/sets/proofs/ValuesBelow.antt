@@ -63,7 +63,8 @@ has-all d v t = has-less d (2 ^ d - 1) v (ones-lt d) t
 pub some-value : (r : ℕ) → r ≢ zero → (v : ℕ) × (has r v ≡ true)
 some-value = bin-ind (λ (n : ℕ). n ≢ zero → (v : ℕ) × (has n v ≡ true)) (λ f. absurd (f refl)) (λ n half f. go n half f (true-or-false (has n zero)))
   where
-    go : (n : ℕ) → (n / 2 ≢ zero → (v : ℕ) × (has (n / 2) v ≡ true)) → n ≢ zero → (has n zero ≡ true) ⊎ (has n zero ≡ false) → (v : ℕ) × (has n v ≡ true)
+    go : (n : ℕ) → (n / 2 ≢ zero → (v : ℕ) × (has (n / 2) v ≡ true)) → n ≢ zero → (has n zero ≡ true) ⊎ (has n zero ≡ false)
+        → (v : ℕ) × (has n v ≡ true)
     go n half f (inl e) = (zero, e)
     go n half f (inr e) = let t = half (λ z. f (set-ext n zero (nothing z))) in (suc (t .0), has-suc n (t .0) ∙ t .1)
       where
@@ -110,7 +111,8 @@ subset-outside k a b h = elim (true-or-false (subset a b)) [
     nothing s v (inr e) = e ∙ sym (has-empty v)
     nothing s v (inl e) =
         let both : (has a v && has out v) ≡ true = sym (has-and a out v) ∙ e in
-        absurd (not-both (subset-has a b s v (and-left (has a v) (has out v) both)) (minus-out (2 ^ k - 1) b v (and-right (has a v) (has out v) both) .1))
+        absurd
+        (not-both (subset-has a b s v (and-left (has a v) (has out v) both)) (minus-out (2 ^ k - 1) b v (and-right (has a v) (has out v) both) .1))
 
     in-b : bitAnd a out ≡ zero → (v : ℕ) → has a v ≡ true → (has b v ≡ true) ⊎ (has b v ≡ false) → has b v ≡ true
     in-b z v t (inl e) = e

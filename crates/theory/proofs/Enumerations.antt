@@ -4,7 +4,9 @@ use Prim.Native.Nat.{ℕ, zero, suc, _≤_, _<_, max}
 use mathlib.Core.Path.{_≡_, refl, sym, ap, _∙_, subst}
 use mathlib.Core.Logic.{_⊎_, inl, inr}
 use mathlib.Core.Bool.{Bool, true, false, not, cond, false≢true}
-use mathlib.Core.List.{List, [], _∷_, _++_, map, flatMap, List·Memᴰ, List·Memᴰ·head, List·Memᴰ·tail, List·Memᴰ·not-nil, List·Memᴰ·cases-cons, List·Memᴰ·append-cases, Memᴰ·append-left, Memᴰ·append-right, List·Memᴰ·eq-of-singleton, Memᴰ·map, Memᴰ·of-map}
+use mathlib.Core.List.{List, [], _∷_, _++_, map, flatMap, List·Memᴰ, List·Memᴰ·head, List·Memᴰ·tail, List·Memᴰ·not-nil}
+use mathlib.Core.List.{List·Memᴰ·cases-cons, List·Memᴰ·append-cases, Memᴰ·append-left, Memᴰ·append-right, List·Memᴰ·eq-of-singleton}
+use mathlib.Core.List.{Memᴰ·map, Memᴰ·of-map}
 use native.Mathlib.Nat.{not-suc-le-zero, suc-inj, suc-ne-zero}
 use native.Mathlib.Decide.{decLe, decLt}
 use native.Mathlib.Omega.{arith}
@@ -57,7 +59,8 @@ unfolding flatMap
 flat-out f [] c m = absurd (List·Memᴰ·not-nil m)
 flat-out f (y ∷ l) c m = go (λ k. flat-out f l c k) (List·Memᴰ·append-cases (f y) m)
   where
-    go : (List·Memᴰ c (flatMap f l) → (x : ℕ) × List·Memᴰ x l × List·Memᴰ c (f x)) → List·Memᴰ c (f y) ⊎ List·Memᴰ c (flatMap f l) → (x : ℕ) × List·Memᴰ x (y ∷ l) × List·Memᴰ c (f x)
+    go : (List·Memᴰ c (flatMap f l) → (x : ℕ) × List·Memᴰ x l × List·Memᴰ c (f x)) → List·Memᴰ c (f y) ⊎ List·Memᴰ c (flatMap f l)
+        → (x : ℕ) × List·Memᴰ x (y ∷ l) × List·Memᴰ c (f x)
     go rec (inl k) = (y, List·Memᴰ·head refl, k)
     go rec (inr k) = let t = rec k in (t .0, List·Memᴰ·tail (t .1), t .2)
 
@@ -145,7 +148,8 @@ unfolding onces
 onces-in p [] m e = absurd (List·Memᴰ·not-nil m)
 onces-in p (q ∷ ps) m e = go (λ k. onces-in p ps k e) (once q) refl (List·Memᴰ·cases-cons m)
   where
-    go : (List·Memᴰ p ps → List·Memᴰ p (onces ps)) → (b : Bool) → once q ≡ b → (p ≡ q) ⊎ List·Memᴰ p ps → List·Memᴰ p (cond b (q ∷ onces ps) (onces ps))
+    go : (List·Memᴰ p ps → List·Memᴰ p (onces ps)) → (b : Bool) → once q ≡ b → (p ≡ q) ⊎ List·Memᴰ p ps
+        → List·Memᴰ p (cond b (q ∷ onces ps) (onces ps))
     go rec true f (inl s) = List·Memᴰ·head s
     go rec true f (inr k) = List·Memᴰ·tail (rec k)
     go rec false f (inl s) = absurd (not-both e (ap once s ∙ f))
@@ -159,7 +163,8 @@ onces-out p (q ∷ ps) m = go (λ k. onces-out p ps k) (once q) refl m
     up : List·Memᴰ p ps × (once p ≡ true) → List·Memᴰ p (q ∷ ps) × (once p ≡ true)
     up (k, e) = (List·Memᴰ·tail k, e)
 
-    go : (List·Memᴰ p (onces ps) → List·Memᴰ p ps × (once p ≡ true)) → (b : Bool) → once q ≡ b → List·Memᴰ p (cond b (q ∷ onces ps) (onces ps)) → List·Memᴰ p (q ∷ ps) × (once p ≡ true)
+    go : (List·Memᴰ p (onces ps) → List·Memᴰ p ps × (once p ≡ true)) → (b : Bool) → once q ≡ b
+        → List·Memᴰ p (cond b (q ∷ onces ps) (onces ps)) → List·Memᴰ p (q ∷ ps) × (once p ≡ true)
     go rec true f k = elim (List·Memᴰ·cases-cons k) [ inl s ↦ (List·Memᴰ·head s, ap once s ∙ f) | inr l ↦ up (rec l) ]
     go rec false f k = up (rec k)
 
@@ -188,7 +193,8 @@ most-met q [] m = absurd (List·Memᴰ·not-nil m)
 most-met q (x ∷ []) m = (x, List·Memᴰ·head refl, omega arith)
 most-met q (x ∷ y ∷ ps) m = go (most-met y (y ∷ ps) (List·Memᴰ·head refl)) (decLe (most (y ∷ ps)) (size x))
   where
-    go : (p : List ℕ) × List·Memᴰ p (y ∷ ps) × (most (y ∷ ps) ≡ size p) → Dec (most (y ∷ ps) ≤ size x) → (p : List ℕ) × List·Memᴰ p (x ∷ y ∷ ps) × (max (size x) (most (y ∷ ps)) ≡ size p)
+    go : (p : List ℕ) × List·Memᴰ p (y ∷ ps) × (most (y ∷ ps) ≡ size p) → Dec (most (y ∷ ps) ≤ size x)
+        → (p : List ℕ) × List·Memᴰ p (x ∷ y ∷ ps) × (max (size x) (most (y ∷ ps)) ≡ size p)
     go t (yes h) = (x, List·Memᴰ·head refl, omega arith)
     go (p, k, e) (no h) = (p, List·Memᴰ·tail k, omega arith)
 

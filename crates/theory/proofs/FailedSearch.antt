@@ -1,5 +1,5 @@
--- When a search has failed, its closed set of asked rows shows that the pairing at hand is a largest one: any other pairing q, with p's mates at the asked rows
--- in place of its own, has as many mates and only values of p. Assumes nothing.
+-- When a search has failed, its closed set of asked rows shows that the pairing at hand is a largest one:
+-- any other pairing q, with p's mates at the asked rows in place of its own, has as many mates and only values of p. Assumes nothing.
 use Prim.Native.Nat.{ℕ, zero, suc, _≤_}
 use mathlib.Core.Path.{_≡_, refl, sym, ap, _∙_, subst}
 use mathlib.Core.Logic.{_⊎_, inl, inr}

@@ -1,4 +1,5 @@
--- Lemma 3.4 for lists with at least one row: a set is in the family exactly when it meets every row and each of its values can be given a row of its own.
+-- Lemma 3.4 for lists with at least one row:
+-- a set is in the family exactly when it meets every row and each of its values can be given a row of its own.
 -- Assumes nothing.
 use Prim.Native.Nat.{ℕ, zero, suc, _<_}
 use mathlib.Core.Path.{_≡_, refl, sym, ap, _∙_, subst}
@@ -109,7 +110,8 @@ record Chosen (d : ℕ) (rows p : List ℕ) (s : ℕ) : Type 0 where
   all : (v : ℕ) → has s v ≡ true → Seated p v → List·Memᴰ v taken
 
 -- value v, of s and of row r, is taken from r; x is r's mate, which is v if it is of s
-chosen-cons : (d r v x : ℕ) (rows p : List ℕ) (s : ℕ) → has s v ≡ true → In d r v → ((w : ℕ) → has s w ≡ true → x ≡ suc w → w ≡ v) → Chosen d rows p s → Chosen d (r ∷ rows) (x ∷ p) s
+chosen-cons : (d r v x : ℕ) (rows p : List ℕ) (s : ℕ) → has s v ≡ true → In d r v → ((w : ℕ) → has s w ≡ true → x ≡ suc w → w ≡ v)
+    → Chosen d rows p s → Chosen d (r ∷ rows) (x ∷ p) s
 chosen-cons d r v x rows p s e inn front m =
     record { taken = v ∷ m .taken; choice = (values-in d r v inn, m .choice); inside = ins; all = λ w f q. place w f (q .0) (q .1) }
   where
@@ -122,13 +124,19 @@ chosen-cons d r v x rows p s e inn front m =
 
 choose : (d : ℕ) (rows p : List ℕ) (s : ℕ) → Pairing d rows p → ((r : ℕ) → List·Memᴰ r rows → Meets d s r) → Chosen d rows p s
 choose d [] p s P meets =
-    record { taken = []; choice = tt; inside = λ v m. absurd (List·Memᴰ·not-nil m); all = λ v e q. absurd (not-both (P .holds (q .0) v (q .1) .1) (has-empty v)) }
+    record {
+      taken = [];
+      choice = tt;
+      inside = λ v m. absurd (List·Memᴰ·not-nil m);
+      all = λ v e q. absurd (not-both (P .holds (q .0) v (q .1) .1) (has-empty v));
+    }
 choose d (r ∷ rows) [] s P meets = absurd (suc-ne-zero (length rows) (sym (P .fits)))
 choose d (r ∷ rows) (zero ∷ p) s P meets =
     let t = meets r (List·Memᴰ·head refl) in
     chosen-cons d r (t .0) zero rows p s (t .1) (t .2) (λ w f g. absurd (suc-ne-zero w (sym g)))
     (choose d rows p s (pairing-tail d r rows p zero P) (λ q k. meets q (List·Memᴰ·tail k)))
-choose d (r ∷ rows) (suc u ∷ p) s P meets = go (has s u) refl (choose d rows p s (pairing-tail d r rows p (suc u) P) (λ q k. meets q (List·Memᴰ·tail k)))
+choose d (r ∷ rows) (suc u ∷ p) s P meets =
+    go (has s u) refl (choose d rows p s (pairing-tail d r rows p (suc u) P) (λ q k. meets q (List·Memᴰ·tail k)))
   where
     go : (b : Bool) → has s u ≡ b → Chosen d rows p s → Chosen d (r ∷ rows) (suc u ∷ p) s
     go true e m = chosen-cons d r u (suc u) rows p s e (pairing-head d r rows p u P .0) (λ w f g. sym (suc-inj g)) m

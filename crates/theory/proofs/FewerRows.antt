@@ -99,7 +99,12 @@ record Left (d : ℕ) (rows p qs : List ℕ) : Type 0 where
 left : (d : ℕ) (qs rows p : List ℕ) → Different qs → ((x : ℕ) → List·Memᴰ x qs → List·Memᴰ x rows) → Pairing d rows p → Left d rows p qs
 unfolding size
 left d [] rows p D sub P =
-    record { mates = []; pairing = pairing-nil d; inside = λ v s. absurd (suc-ne-zero v (sym (s .1))); sizes = omega (arith, size-by-rows p, P .fits) }
+    record {
+      mates = [];
+      pairing = pairing-nil d;
+      inside = λ v s. absurd (suc-ne-zero v (sym (s .1)));
+      sizes = omega (arith, size-by-rows p, P .fits);
+    }
 left d (x ∷ qs) rows p D sub P = go (at p i) refl (left d qs (without rows i) (without p i) (D .1) rest (pairing-without d rows p i (t .1) P))
   where
     t : (i : ℕ) × (i < length rows) × (x ≡ at rows i)
@@ -147,7 +152,8 @@ left d (x ∷ qs) rows p D sub P = go (at p i) refl (left d qs (without rows i) 
         inn v zero f = (i, e ∙ f)
         inn v (suc j) f = back v (T .inside v (j, f))
 
-pub rank-fewer : (d : ℕ) (qs rows : List ℕ) → Different qs → ((x : ℕ) → List·Memᴰ x qs → List·Memᴰ x rows) → rank d rows + length qs ≤ rank d qs + length rows
+pub rank-fewer : (d : ℕ) (qs rows : List ℕ) → Different qs → ((x : ℕ) → List·Memᴰ x qs → List·Memᴰ x rows)
+    → rank d rows + length qs ≤ rank d qs + length rows
 rank-fewer d qs rows D sub =
     let h = rank-met d rows in
     let t = left d qs rows (h .0) D sub (h .1) in

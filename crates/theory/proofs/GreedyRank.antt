@@ -19,7 +19,8 @@ use Rattle.theory.proofs.Places.{Mate, mate?, not-mate, at-less, stored
 use Rattle.theory.proofs.Sizes.{size-by-places}
 use Rattle.theory.proofs.Enumerations.{OfRank, rank-bound, rank-met}
 use Rattle.theory.proofs.SwapRows.{RowsSwapped, swap-rows}
-use Rattle.theory.proofs.Marks.{Fewer, mark-same, mark-keeps, mark-cases, length-mask, at-marked, mask-out, pairing-marked, pairing-whole, pairing-mask, pairing-more, rank-mask, length-mark}
+use Rattle.theory.proofs.Marks.{Fewer, mark-same, mark-keeps, mark-cases, length-mask, at-marked, mask-out, pairing-marked}
+use Rattle.theory.proofs.Marks.{pairing-whole, pairing-mask, pairing-more, rank-mask, length-mark}
 
 -- ---- the rows that have mates
 
@@ -125,7 +126,9 @@ module _ (d : ℕ) (view : List ℕ) where
 
       -- a largest pairing of b's rows that uses n's rows, and one of b⁺'s that uses those
       over-b : (m : List ℕ) × RowsSwapped d (mask b view) n (pairing-more d view n a b sub (met-a .1)) m
-      over-b = swap-rows d (mask b view) n (pairing-more d view n a b sub (met-a .1)) (met-b .0) (met-b .1) (λ p P. omega (arith, rank-bound d (mask b view) p P, met-b .2))
+      over-b =
+          swap-rows d (mask b view) n (pairing-more d view n a b sub (met-a .1)) (met-b .0) (met-b .1)
+          (λ p P. omega (arith, rank-bound d (mask b view) p P, met-b .2))
 
       m : List ℕ
       m = over-b .0
@@ -240,12 +243,23 @@ module _ (d : ℕ) (view : List ℕ) where
         settled = kept;
         cost = omega (arith, ltb-true (rank d (pick ms view)) (rank d (pick ms⁺ view)) e, length-mark ms view i);
       }
-      go false e = record { fits = fits; more = λ x f. f; settled = passed (ltb-false (rank d (pick ms view)) (rank d (pick ms⁺ view)) e); cost = omega arith }
+      go false e = record {
+        fits = fits;
+        more = λ x f. f;
+        settled = passed (ltb-false (rank d (pick ms view)) (rank d (pick ms⁺ view)) e);
+        cost = omega arith;
+      }
 
-  pub tries-reached : (n i : ℕ) (ms : List Bool) → length ms ≡ length view → ((x : ℕ) → x < i → Raises ms x → ⊥) → Reached ms (tries d view n i ms) (i + n)
+  pub tries-reached : (n i : ℕ) (ms : List Bool) → length ms ≡ length view → ((x : ℕ) → x < i → Raises ms x → ⊥)
+      → Reached ms (tries d view n i ms) (i + n)
   unfolding tries
   tries-reached zero i ms fits before = record { fits = fits; more = λ x f. f; settled = λ x h. before x (omega arith); cost = omega arith }
   tries-reached (suc n) i ms fits before =
       let g : Reached ms (try d view ms i) (suc i) = try-reached ms i fits before in
       let h : Reached (try d view ms i) (tries d view n (suc i) (try d view ms i)) (suc i + n) = tries-reached n (suc i) (try d view ms i) (g .fits) (g .settled) in
-      record { fits = h .fits; more = λ x f. h .more x (g .more x f); settled = λ x k. h .settled x (omega arith); cost = omega (arith, g .cost, h .cost) }
+      record {
+        fits = h .fits;
+        more = λ x f. h .more x (g .more x f);
+        settled = λ x k. h .settled x (omega arith);
+        cost = omega (arith, g .cost, h .cost);
+      }

@@ -35,7 +35,13 @@ module _ (d e : ℕ) (le : d ≤ e) where
   rank-any rows R =
       let a = rank-met d rows in
       let b = rank-met e rows in
-      omega (arith, a .2, b .2, rank-bound e rows (a .0) (pairing-up rows (a .0) (a .1)), rank-bound d rows (b .0) (pairing-down rows (b .0) R (b .1)))
+      omega (
+        arith,
+        a .2,
+        b .2,
+        rank-bound e rows (a .0) (pairing-up rows (a .0) (a .1)),
+        rank-bound d rows (b .0) (pairing-down rows (b .0) R (b .1)),
+      )
 
   module _ (view : List ℕ) (R : Rows d view) where
     picked : (ms : List Bool) → rank d (pick ms view) ≡ rank e (pick ms view)

@@ -13,12 +13,14 @@ use Rattle.theory.proofs.Marks.{Fewer, length-more}
 use Rattle.theory.proofs.MinimalRows.{length-firsts}
 
 -- what stands at the positions of the marks is what is marked; the marks begin at place k
-at-positions : (g : ℕ → ℕ) (ms : List Bool) (rows : List ℕ) (k : ℕ) → length ms ≡ length rows → ((j : ℕ) → g (k + j) ≡ at rows j) → map g (positions k ms) ≡ pick ms rows
+at-positions : (g : ℕ → ℕ) (ms : List Bool) (rows : List ℕ) (k : ℕ) → length ms ≡ length rows → ((j : ℕ) → g (k + j) ≡ at rows j)
+    → map g (positions k ms) ≡ pick ms rows
 unfolding positions pick
 at-positions g [] rows k l e = refl
 at-positions g (b ∷ ms) [] k l e = absurd (let z : suc (length ms) ≡ zero = l in omega arith)
 at-positions g (true ∷ ms) (r ∷ rows) k l e =
-    ap₂ {B = List ℕ} (λ x y. x ∷ y) (ap g (sym (add-zero k)) ∙ e zero) (at-positions g ms rows (suc k) (suc-inj l) (λ j. ap g (suc-add k j ∙ sym (add-suc k j)) ∙ e (suc j)))
+    ap₂ {B = List ℕ} (λ x y. x ∷ y) (ap g (sym (add-zero k)) ∙ e zero)
+    (at-positions g ms rows (suc k) (suc-inj l) (λ j. ap g (suc-add k j ∙ sym (add-suc k j)) ∙ e (suc j)))
 at-positions g (false ∷ ms) (r ∷ rows) k l e = at-positions g ms rows (suc k) (suc-inj l) (λ j. ap g (suc-add k j ∙ sym (add-suc k j)) ∙ e (suc j))
 
 module _ (d : ℕ) (view : List ℕ) where

@@ -118,7 +118,11 @@ alike-sym p q a = record { sizes = sym (a .sizes); there = a .back; back = a .th
 
 alike-zero : (p q : List ℕ) → Alike p q → Alike p (zero ∷ q)
 unfolding size
-alike-zero p q a = record { sizes = a .sizes; there = λ v s. let t = a .there v s in (suc (t .0), t .1); back = λ v s. a .back v (later v (s .0) (s .1)) }
+alike-zero p q a = record {
+  sizes = a .sizes;
+  there = λ v s. let t = a .there v s in (suc (t .0), t .1);
+  back = λ v s. a .back v (later v (s .0) (s .1));
+}
   where
     later : (v i : ℕ) → at (zero ∷ q) i ≡ suc v → Seated q v
     later v zero e = absurd (suc-ne-zero v (sym e))
@@ -137,7 +141,8 @@ alike-cons x p q a = record { sizes = sizes x; there = λ v s. over p q (a .ther
     over s t f v (suc i) e = let u = f v (i, e) in (suc (u .0), u .1)
 
 -- the mate in front, before other rows with alike mates
-pairing-front : (d r : ℕ) (rows rows′ : List ℕ) (x : ℕ) (p q : List ℕ) → Pairing d (r ∷ rows) (x ∷ p) → Pairing d rows′ q → Alike p q → Pairing d (r ∷ rows′) (x ∷ q)
+pairing-front : (d r : ℕ) (rows rows′ : List ℕ) (x : ℕ) (p q : List ℕ) → Pairing d (r ∷ rows) (x ∷ p) → Pairing d rows′ q → Alike p q
+    → Pairing d (r ∷ rows′) (x ∷ q)
 pairing-front d r rows rows′ zero p q P Q a = pairing-none d r rows′ q Q
 pairing-front d r rows rows′ (suc v) p q P Q a = let h = pairing-head d r rows p v P in pairing-mate d r rows′ q v (h .0) (λ s. h .1 (a .back v s)) Q
 
@@ -147,7 +152,8 @@ unfolding pick mask
 widen d [] [] q Q = (q, Q, alike-refl q)
 widen d (m ∷ ms) [] q Q = (q, Q, alike-refl q)
 widen d [] (r ∷ rows) q Q = let t = widen d [] rows q Q in (zero ∷ t .0, pairing-none d zero (mask [] rows) (t .0) (t .1), alike-zero q (t .0) (t .2))
-widen d (false ∷ ms) (r ∷ rows) q Q = let t = widen d ms rows q Q in (zero ∷ t .0, pairing-none d zero (mask ms rows) (t .0) (t .1), alike-zero q (t .0) (t .2))
+widen d (false ∷ ms) (r ∷ rows) q Q =
+    let t = widen d ms rows q Q in (zero ∷ t .0, pairing-none d zero (mask ms rows) (t .0) (t .1), alike-zero q (t .0) (t .2))
 widen d (true ∷ ms) (r ∷ rows) [] Q = absurd (suc-ne-zero (length (pick ms rows)) (sym (Q .fits)))
 widen d (true ∷ ms) (r ∷ rows) (x ∷ q) Q =
     let t = widen d ms rows q (pairing-tail d r (pick ms rows) q x Q) in
@@ -168,8 +174,10 @@ pub shrink : (d : ℕ) (ms : List Bool) (rows p : List ℕ) → Pairing d (mask 
 unfolding pick mask
 shrink d [] [] p P = (p, P, alike-refl p)
 shrink d (m ∷ ms) [] p P = (p, P, alike-refl p)
-shrink d [] (r ∷ rows) p P = let e = skip-empty d (mask [] rows) p P in let t = shrink d [] rows (e .0) (e .1) in (t .0, t .1, alike-trans p (e .0) (t .0) (e .2) (t .2))
-shrink d (false ∷ ms) (r ∷ rows) p P = let e = skip-empty d (mask ms rows) p P in let t = shrink d ms rows (e .0) (e .1) in (t .0, t .1, alike-trans p (e .0) (t .0) (e .2) (t .2))
+shrink d [] (r ∷ rows) p P =
+    let e = skip-empty d (mask [] rows) p P in let t = shrink d [] rows (e .0) (e .1) in (t .0, t .1, alike-trans p (e .0) (t .0) (e .2) (t .2))
+shrink d (false ∷ ms) (r ∷ rows) p P =
+    let e = skip-empty d (mask ms rows) p P in let t = shrink d ms rows (e .0) (e .1) in (t .0, t .1, alike-trans p (e .0) (t .0) (e .2) (t .2))
 shrink d (true ∷ ms) (r ∷ rows) [] P = absurd (suc-ne-zero (length (mask ms rows)) (sym (P .fits)))
 shrink d (true ∷ ms) (r ∷ rows) (x ∷ p) P =
     let t = shrink d ms rows p (pairing-tail d r (mask ms rows) p x P) in
@@ -230,9 +238,11 @@ length-more [] b rows sub = omega arith
 length-more (x ∷ a) b [] sub = omega arith
 length-more (true ∷ a) [] (r ∷ rows) sub = absurd (false≢true (sub zero refl))
 length-more (true ∷ a) (false ∷ b) (r ∷ rows) sub = absurd (false≢true (sub zero refl))
-length-more (true ∷ a) (true ∷ b) (r ∷ rows) sub = let h : length (pick a rows) ≤ length (pick b rows) = length-more a b rows (λ i e. sub (suc i) e) in omega arith
+length-more (true ∷ a) (true ∷ b) (r ∷ rows) sub =
+    let h : length (pick a rows) ≤ length (pick b rows) = length-more a b rows (λ i e. sub (suc i) e) in omega arith
 length-more (false ∷ a) [] (r ∷ rows) sub = length-more a [] rows (λ i e. sub (suc i) e)
-length-more (false ∷ a) (true ∷ b) (r ∷ rows) sub = let h : length (pick a rows) ≤ length (pick b rows) = length-more a b rows (λ i e. sub (suc i) e) in omega arith
+length-more (false ∷ a) (true ∷ b) (r ∷ rows) sub =
+    let h : length (pick a rows) ≤ length (pick b rows) = length-more a b rows (λ i e. sub (suc i) e) in omega arith
 length-more (false ∷ a) (false ∷ b) (r ∷ rows) sub = length-more a b rows (λ i e. sub (suc i) e)
 
 pub length-mark : (ms : List Bool) (rows : List ℕ) (x : ℕ) → length (pick (set ms x true) rows) ≤ suc (length (pick ms rows))
@@ -242,5 +252,6 @@ length-mark (b ∷ ms) [] zero = omega arith
 length-mark (b ∷ ms) [] (suc x) = omega arith
 length-mark (true ∷ ms) (r ∷ rows) zero = omega arith
 length-mark (false ∷ ms) (r ∷ rows) zero = omega arith
-length-mark (true ∷ ms) (r ∷ rows) (suc x) = let h : length (pick (set ms x true) rows) ≤ suc (length (pick ms rows)) = length-mark ms rows x in omega arith
+length-mark (true ∷ ms) (r ∷ rows) (suc x) =
+    let h : length (pick (set ms x true) rows) ≤ suc (length (pick ms rows)) = length-mark ms rows x in omega arith
 length-mark (false ∷ ms) (r ∷ rows) (suc x) = length-mark ms rows x

@@ -73,15 +73,18 @@ unfolding firsts
 length-firsts view = length-after view [] view
 
 -- a minimal set that does not stand before is marked
-after-in : (view before rows : List ℕ) (x : ℕ) → minimal view x ≡ true → among x before ≡ false → List·Memᴰ x rows → List·Memᴰ x (pick (firstsAfter view before rows) rows)
+after-in : (view before rows : List ℕ) (x : ℕ) → minimal view x ≡ true → among x before ≡ false → List·Memᴰ x rows
+    → List·Memᴰ x (pick (firstsAfter view before rows) rows)
 unfolding firstsAfter pick among
 after-in view before [] x e f m = absurd (List·Memᴰ·not-nil m)
-after-in view before (r ∷ rows) x e f m = go (λ n k. after-in view (r ∷ before) rows x e (new n) k) (ℕ-discrete x r) (minimal view r && not (among r before)) refl (List·Memᴰ·cases-cons m)
+after-in view before (r ∷ rows) x e f m =
+    go (λ n k. after-in view (r ∷ before) rows x e (new n) k) (ℕ-discrete x r) (minimal view r && not (among r before)) refl (List·Memᴰ·cases-cons m)
   where
     new : x ≢ r → (eqb x r || among x before) ≡ false
     new n = rw (ne-eqb x r n) f
 
-    go : (x ≢ r → List·Memᴰ x rows → List·Memᴰ x (pick (firstsAfter view (r ∷ before) rows) rows)) → Dec (x ≡ r) → (b : Bool) → (minimal view r && not (among r before)) ≡ b
+    go : (x ≢ r → List·Memᴰ x rows → List·Memᴰ x (pick (firstsAfter view (r ∷ before) rows) rows)) → Dec (x ≡ r) → (b : Bool)
+        → (minimal view r && not (among r before)) ≡ b
         → (x ≡ r) ⊎ List·Memᴰ x rows → List·Memᴰ x (pick (b ∷ firstsAfter view (r ∷ before) rows) (r ∷ rows))
     go rec (yes s) true g k = List·Memᴰ·head s
     go rec (yes s) false g k =
@@ -105,7 +108,8 @@ after-out view before (r ∷ rows) x m = go (λ k. after-out view (r ∷ before)
     this : (minimal view r && not (among r before)) ≡ true → x ≡ r → Fresh view before x
     this g s = (ap (minimal view) s ∙ and-left (minimal view r) (not (among r before)) g, ap (λ (y : ℕ). among y before) s ∙ not-true (among r before) (and-right (minimal view r) (not (among r before)) g))
 
-    go : (List·Memᴰ x (pick (firstsAfter view (r ∷ before) rows) rows) → Fresh view (r ∷ before) x) → (b : Bool) → (minimal view r && not (among r before)) ≡ b
+    go : (List·Memᴰ x (pick (firstsAfter view (r ∷ before) rows) rows) → Fresh view (r ∷ before) x) → (b : Bool)
+        → (minimal view r && not (among r before)) ≡ b
         → List·Memᴰ x (pick (b ∷ firstsAfter view (r ∷ before) rows) (r ∷ rows)) → Fresh view before x
     go rec true g k = elim (List·Memᴰ·cases-cons k) [ inl s ↦ this g s | inr l ↦ later (rec l) ]
     go rec false g k = later (rec k)
@@ -115,7 +119,8 @@ unfolding firstsAfter pick among
 after-different view before [] = tt
 after-different view before (r ∷ rows) = go (after-different view (r ∷ before) rows) (minimal view r && not (among r before))
   where
-    go : Different (pick (firstsAfter view (r ∷ before) rows) rows) → (b : Bool) → Different (pick (b ∷ firstsAfter view (r ∷ before) rows) (r ∷ rows))
+    go : Different (pick (firstsAfter view (r ∷ before) rows) rows) → (b : Bool)
+        → Different (pick (b ∷ firstsAfter view (r ∷ before) rows) (r ∷ rows))
     go rec true = (λ m. not-both (or-left (eqb r r) (among r before) (eq-eqb r r refl)) (after-out view (r ∷ before) rows r m .1), rec)
     go rec false = rec
 
@@ -150,6 +155,7 @@ after-at view before (r ∷ rows) (suc i) h =
     after-at view (r ∷ before) rows i (le-of-suc-le-suc h)
     ∙ ap (λ (b : Bool). minimal view (at rows i) && not b) (or-turn (among (at rows i) (take i rows)) (eqb (at rows i) r) (among (at rows i) before))
 
-pub firsts-at : (view : List ℕ) (i : ℕ) → i < length view → marked (firsts view) i ≡ (minimal view (at view i) && not (among (at view i) (take i view)))
+pub firsts-at : (view : List ℕ) (i : ℕ) → i < length view
+    → marked (firsts view) i ≡ (minimal view (at view i) && not (among (at view i) (take i view)))
 unfolding firsts among
 firsts-at view i h = after-at view [] view i h ∙ ap (λ (b : Bool). minimal view (at view i) && not b) (or-false (among (at view i) (take i view)))

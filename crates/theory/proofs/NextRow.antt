@@ -54,7 +54,9 @@ module _ (d : ℕ) (view : List ℕ) where
   -- a row that is marked already is passed by
   pub try-marked : (ms : List Bool) (i : ℕ) → marked ms i ≡ true → try d view ms i ≡ ms
   unfolding try
-  try-marked ms i t = ap (λ (l : List Bool). cond (ltb (rank d (pick ms view)) (rank d (pick l view))) l ms) same ∙ ap (λ (b : Bool). cond b ms ms) (le-ltb (rank d (pick ms view)) (rank d (pick ms view)) (omega arith))
+  try-marked ms i t =
+      ap (λ (l : List Bool). cond (ltb (rank d (pick ms view)) (rank d (pick l view))) l ms) same
+      ∙ ap (λ (b : Bool). cond b ms ms) (le-ltb (rank d (pick ms view)) (rank d (pick ms view)) (omega arith))
     where
       same : set ms i true ≡ ms
       same = ap (set ms i) (sym t) ∙ set-getD ms i false
@@ -67,4 +69,5 @@ module _ (d : ℕ) (view : List ℕ) where
   pub tries-next : (n i : ℕ) (ms : List Bool) → tries d view (suc n) i ms ≡ try d view (tries d view n i ms) (i + n)
   unfolding tries
   tries-next zero i ms = ap (try d view ms) (sym (add-zero i))
-  tries-next (suc n) i ms = tries-next n (suc i) (try d view ms i) ∙ ap (try d view (tries d view n (suc i) (try d view ms i))) (suc-add i n ∙ sym (add-suc i n))
+  tries-next (suc n) i ms =
+      tries-next n (suc i) (try d view ms i) ∙ ap (try d view (tries d view n (suc i) (try d view ms i))) (suc-add i n ∙ sym (add-suc i n))

@@ -11,7 +11,8 @@ use Rattle.theory.proofs.Places.{Mate, mate?, not-mate, Stored, stored,
 
 module _ (d : ℕ) (rows : List ℕ) where
   -- a value that has no row is put at a row that holds it; the row's own mate, if it had one, is without a row then
-  pub pairing-put : (p : List ℕ) (i v : ℕ) → Pairing d rows p → i < length p → In d (at rows i) v → (Seated p v → ⊥) → Pairing d rows (set p i (suc v))
+  pub pairing-put : (p : List ℕ) (i v : ℕ) → Pairing d rows p → i < length p → In d (at rows i) v → (Seated p v → ⊥)
+      → Pairing d rows (set p i (suc v))
   pairing-put p i v P h inn new =
       record {
         fits = length-set p i (suc v) ∙ P .fits;
@@ -49,7 +50,8 @@ module _ (d : ℕ) (rows : List ℕ) where
       }
 
   -- where a largest pairing leaves a value without a row, each row that holds the value has a mate
-  pub taken : (p : List ℕ) (i v : ℕ) → Pairing d rows p → Largest d rows p → i < length p → In d (at rows i) v → (Seated p v → ⊥) → (w : ℕ) × (at p i ≡ suc w)
+  pub taken : (p : List ℕ) (i v : ℕ) → Pairing d rows p → Largest d rows p → i < length p → In d (at rows i) v → (Seated p v → ⊥)
+      → (w : ℕ) × (at p i ≡ suc w)
   taken p i v P L h inn new = go (mate? (at p i))
     where
       go : Mate (at p i) → (w : ℕ) × (at p i ≡ suc w)
@@ -99,5 +101,6 @@ module _ (d r : ℕ) (rows p : List ℕ) where
       one (suc i) (suc j) w e f = ap suc (P .apart i j w e f)
 
 -- a pairing of rows is one of rows that hold the same mates
-pub pairing-move : (d : ℕ) (rows rows′ p : List ℕ) → length rows ≡ length rows′ → ((i v : ℕ) → at p i ≡ suc v → In d (at rows i) v → In d (at rows′ i) v) → Pairing d rows p → Pairing d rows′ p
+pub pairing-move : (d : ℕ) (rows rows′ p : List ℕ) → length rows ≡ length rows′
+    → ((i v : ℕ) → at p i ≡ suc v → In d (at rows i) v → In d (at rows′ i) v) → Pairing d rows p → Pairing d rows′ p
 pairing-move d rows rows′ p e f P = record { fits = P .fits ∙ e; holds = λ i v h. f i v h (P .holds i v h); apart = P .apart }

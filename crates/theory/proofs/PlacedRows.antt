@@ -3,7 +3,8 @@ use Prim.Native.Nat.{ℕ, zero, suc, _+_, _≤_, _<_}
 use mathlib.Core.Path.{_≡_, refl, sym, ap, _∙_, subst}
 use mathlib.Core.Logic.{inl, inr}
 use mathlib.Core.Bool.{Bool, true, false, cond}
-use mathlib.Core.List.{List, [], _∷_, _++_, map, List·Memᴰ, List·Memᴰ·head, List·Memᴰ·tail, List·Memᴰ·not-nil, List·Memᴰ·append-cases, List·Memᴰ·eq-of-singleton, Memᴰ·append-left, Memᴰ·append-right}
+use mathlib.Core.List.{List, [], _∷_, _++_, map, List·Memᴰ, List·Memᴰ·head, List·Memᴰ·tail, List·Memᴰ·not-nil, List·Memᴰ·append-cases}
+use mathlib.Core.List.{List·Memᴰ·eq-of-singleton, Memᴰ·append-left, Memᴰ·append-right}
 use native.Mathlib.Nat.{not-suc-le-zero, le-of-suc-le-suc, suc-ne-zero}
 use native.Mathlib.Decide.{decLt}
 use native.Mathlib.Omega.{arith}
@@ -73,20 +74,31 @@ module _ (d : ℕ) (view : List ℕ) where
   unfolding zeros size
   place [] [] D inside Q = record {
     mates = zeros (length view);
-    pairing = record { fits = length-replicate (length view) zero; holds = λ i v e. absurd (not-mate (at-zeros (length view) i) e); apart = λ i j v e f. absurd (not-mate (at-zeros (length view) i) e) };
+    pairing = record {
+      fits = length-replicate (length view) zero;
+      holds = λ i v e. absurd (not-mate (at-zeros (length view) i) e);
+      apart = λ i j v e f. absurd (not-mate (at-zeros (length view) i) e);
+    };
     sizes = size-zeros (length view);
     listed = λ i v e. absurd (not-mate (at-zeros (length view) i) e);
     from = λ v s. absurd (not-mate (at-zeros (length view) (s .0)) (s .1));
   }
   place [] (x ∷ q) D inside Q = absurd (suc-ne-zero (length q) (Q .fits))
   place (i ∷ is) [] D inside Q = absurd (suc-ne-zero (length (rowsAt view is)) (sym (Q .fits)))
-  place (i ∷ is) (x ∷ q) D inside Q = go x Q (place is q (D .1) (λ j m. inside j (List·Memᴰ·tail m)) (pairing-tail d (at view i) (rowsAt view is) q x Q))
+  place (i ∷ is) (x ∷ q) D inside Q =
+      go x Q (place is q (D .1) (λ j m. inside j (List·Memᴰ·tail m)) (pairing-tail d (at view i) (rowsAt view is) q x Q))
     where
       later : (y v : ℕ) → Seated q v → Seated (y ∷ q) v
       later y v s = (suc (s .0), s .1)
 
       go : (x : ℕ) → Pairing d (rowsAt view (i ∷ is)) (x ∷ q) → Placed is q → Placed (i ∷ is) (x ∷ q)
-      go zero Q T = record { mates = T .mates; pairing = T .pairing; sizes = T .sizes; listed = λ j v e. List·Memᴰ·tail (T .listed j v e); from = λ v s. later zero v (T .from v s) }
+      go zero Q T = record {
+        mates = T .mates;
+        pairing = T .pairing;
+        sizes = T .sizes;
+        listed = λ j v e. List·Memᴰ·tail (T .listed j v e);
+        from = λ v s. later zero v (T .from v s);
+      }
       go (suc v) Q T = record {
         mates = set (T .mates) i (suc v);
         pairing = pairing-put d view (T .mates) i v (T .pairing) hi (h .0) (λ s. h .1 (T .from v s));
@@ -131,10 +143,16 @@ module _ (d : ℕ) (view : List ℕ) where
   marked-inside ms i e t = elim (decLt i (length view)) [ yes h ↦ h | no n ↦ absurd (not-both t (List·getD-eq-default ms false (omega arith))) ]
 
   -- the rows at some marked positions have no larger rank than the marked rows
-  listed-rank : (ms : List Bool) (is q : List ℕ) → length ms ≡ length view → Different is → ((i : ℕ) → List·Memᴰ i is → marked ms i ≡ true) → Pairing d (rowsAt view is) q → size q ≤ rank d (pick ms view)
+  listed-rank : (ms : List Bool) (is q : List ℕ) → length ms ≡ length view → Different is → ((i : ℕ) → List·Memᴰ i is → marked ms i ≡ true)
+      → Pairing d (rowsAt view is) q → size q ≤ rank d (pick ms view)
   listed-rank ms is q fits D all Q =
       let T = place is q D (λ i m. marked-inside ms i fits (all i m)) Q in
-      omega (arith, T .sizes, rank-mask d ms view, rank-bound d (mask ms view) (T .mates) (pairing-mask d view (T .mates) ms (λ i v e. all i (T .listed i v e)) (T .pairing)))
+      omega (
+        arith,
+        T .sizes,
+        rank-mask d ms view,
+        rank-bound d (mask ms view) (T .mates) (pairing-mask d view (T .mates) ms (λ i v e. all i (T .listed i v e)) (T .pairing)),
+      )
 
   -- the next row, which is not marked
   module _ (ms : List Bool) (is : List ℕ) (S : Stands d view ms is) (x : ℕ) (h : x < length view) (n : marked ms x ≡ false) where
@@ -150,7 +168,13 @@ module _ (d : ℕ) (view : List ℕ) where
       ]
 
       ranks⁺ : rank d (pick (set ms x true) view) ≡ suc (length is)
-      ranks⁺ = omega (arith, larger, S .ranks, rank-step d view ms x, listed-rank (set ms x true) (is ++ x ∷ []) q (length-set ms x true ∙ S .fits) apart⁺ marked⁺ Q)
+      ranks⁺ = omega (
+        arith,
+        larger,
+        S .ranks,
+        rank-step d view ms x,
+        listed-rank (set ms x true) (is ++ x ∷ []) q (length-set ms x true ∙ S .fits) apart⁺ marked⁺ Q,
+      )
 
       pub raised-stands : Stands d view (set ms x true) (is ++ x ∷ [])
       raised-stands = record {
@@ -162,10 +186,13 @@ module _ (d : ℕ) (view : List ℕ) where
 
       pub raised-kept : try d view ms x ≡ set ms x true
       unfolding try
-      raised-kept = ap (λ (b : Bool). cond b (set ms x true) ms) (lt-ltb (rank d (pick ms view)) (rank d (pick (set ms x true) view)) (omega (arith, S .ranks, ranks⁺)))
+      raised-kept =
+          ap (λ (b : Bool). cond b (set ms x true) ms)
+          (lt-ltb (rank d (pick ms view)) (rank d (pick (set ms x true) view)) (omega (arith, S .ranks, ranks⁺)))
 
     -- no pairing of the rows at `is` and row x is larger
-    module _ (p : List ℕ) (P : Pairing d (rowsAt view is) p) (full : size p ≡ length is) (most : (q : List ℕ) → Pairing d (rowsAt view (is ++ x ∷ [])) q → size q ≤ length is) where
+    module _ (p : List ℕ) (P : Pairing d (rowsAt view is) p) (full : size p ≡ length is)
+        (most : (q : List ℕ) → Pairing d (rowsAt view (is ++ x ∷ [])) q → size q ≤ length is) where
       T : Placed is p
       T = place is p (S .apart) (λ i m. marked-inside ms i (S .fits) (S .marked-all i m)) P
 
@@ -182,13 +209,25 @@ module _ (d : ℕ) (view : List ℕ) where
 
       not-raised : Raises d view hs x → ⊥
       unfolding hs
-      not-raised r = omega (arith, r, met .2, low, size-listed, most (rowsAt (met .0) (is ++ x ∷ [])) (listed-pairing (is ++ x ∷ []) (met .0) apart⁺ (pairing-whole d view (met .0) (set hs x true) (met .1))))
+      not-raised r = omega (
+        arith,
+        r,
+        met .2,
+        low,
+        size-listed,
+        most (rowsAt (met .0) (is ++ x ∷ [])) (listed-pairing (is ++ x ∷ []) (met .0) apart⁺ (pairing-whole d view (met .0) (set hs x true) (met .1))),
+      )
         where
           met : OfRank d (mask (set hs x true) view)
           met = rank-met d (mask (set hs x true) view)
 
           low : length is ≤ rank d (mask hs view)
-          low = omega (arith, full, T .sizes, rank-bound d (mask hs view) (T .mates) (pairing-mask d view (T .mates) hs (λ i v e. mated-in (T .mates) i v e) (T .pairing)))
+          low = omega (
+            arith,
+            full,
+            T .sizes,
+            rank-bound d (mask hs view) (T .mates) (pairing-mask d view (T .mates) hs (λ i v e. mated-in (T .mates) i v e) (T .pairing)),
+          )
 
           size-listed : size (met .0) ≤ size (rowsAt (met .0) (is ++ x ∷ []))
           size-listed = listed-size (is ++ x ∷ []) (met .0) (pairing-whole d view (met .0) (set hs x true) (met .1)) (λ i v e. elim (mark-cases hs x i (pairing-marked d view (met .0) (set hs x true) (met .1) i v e)) [
@@ -212,5 +251,11 @@ module _ (d : ℕ) (view : List ℕ) where
         fits = length-set ms x true ∙ S .fits;
         apart = S .apart;
         marked-all = λ i m. mark-keeps ms x i (S .marked-all i m);
-        ranks = omega (arith, same-rank, S .ranks, full, listed-rank (set ms x true) is p (length-set ms x true ∙ S .fits) (S .apart) (λ i m. mark-keeps ms x i (S .marked-all i m)) P);
+        ranks = omega (
+          arith,
+          same-rank,
+          S .ranks,
+          full,
+          listed-rank (set ms x true) is p (length-set ms x true ∙ S .fits) (S .apart) (λ i m. mark-keeps ms x i (S .marked-all i m)) P,
+        );
       }

@@ -154,7 +154,8 @@ unfolding differ
 differ-copy [] q i h k ne = absurd (not-suc-le-zero h)
 differ-copy (x ∷ p) [] i h k ne = absurd (not-suc-le-zero k)
 differ-copy (x ∷ p) (y ∷ q) zero h k ne = rw (eq-eqb x x refl, ne-eqb x y ne)
-differ-copy (x ∷ p) (y ∷ q) (suc i) h k ne = count-suc (eqb x y) (differ p (set q i (at p i))) (differ p q) (differ-copy p q i (le-of-suc-le-suc h) (le-of-suc-le-suc k) ne)
+differ-copy (x ∷ p) (y ∷ q) (suc i) h k ne =
+    count-suc (eqb x y) (differ p (set q i (at p i))) (differ p q) (differ-copy p q i (le-of-suc-le-suc h) (le-of-suc-le-suc k) ne)
 
 -- a store where they differ does not make them differ in more places
 pub differ-store : (p q : List ℕ) (i x : ℕ) → at p i ≢ at q i → differ p (set q i x) ≤ differ p q

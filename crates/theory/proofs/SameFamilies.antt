@@ -1,4 +1,5 @@
--- Two lists of rows with the same family: each row of one has a subset in the other (Lemma 3.1), a minimal row a copy, and their ranks are the same. Assumes nothing.
+-- Two lists of rows with the same family:
+-- each row of one has a subset in the other (Lemma 3.1), a minimal row a copy, and their ranks are the same. Assumes nothing.
 use Prim.Native.Nat.{ℕ, zero, suc, _≤_, _<_}
 use mathlib.Core.Path.{_≡_, refl, sym, ap, _∙_, subst}
 use mathlib.Core.Logic.{_⊎_, inl, inr}
@@ -43,13 +44,15 @@ row-outside d r m w e = go (search-below (λ v. (has r v ≡ true) × (has m v �
       | inr f ↦ elim (true-or-false (has r v)) [ inl t ↦ inl (t, f) | inr g ↦ inr (λ t. absurd (not-both t g)) ]
     ]
 
-    go : ((v : ℕ) × (v < d) × ((has r v ≡ true) × (has m v ≡ false))) ⊎ ((v : ℕ) → v < d → has r v ≡ true → has m v ≡ true) → (v : ℕ) × In d r v × (has m v ≡ false)
+    go : ((v : ℕ) × (v < d) × ((has r v ≡ true) × (has m v ≡ false))) ⊎ ((v : ℕ) → v < d → has r v ≡ true → has m v ≡ true)
+        → (v : ℕ) × In d r v × (has m v ≡ false)
     go (inl t) = (t .0, (t .1, t .2 .0), t .2 .1)
     go (inr all) = absurd (not-both (has-subset r m (λ v f. all v (within-has d r v w f) f)) e)
 
 -- ---- choices of values with a property
 
-choose : (d : ℕ) (rows : List ℕ) (P : ℕ → Type 0) → ((r : ℕ) → List·Memᴰ r rows → (v : ℕ) × In d r v × P v) → (c : List ℕ) × Choice d rows c × ((v : ℕ) → List·Memᴰ v c → P v)
+choose : (d : ℕ) (rows : List ℕ) (P : ℕ → Type 0) → ((r : ℕ) → List·Memᴰ r rows → (v : ℕ) × In d r v × P v)
+    → (c : List ℕ) × Choice d rows c × ((v : ℕ) → List·Memᴰ v c → P v)
 choose d [] P f = ([], tt, λ v m. absurd (List·Memᴰ·not-nil m))
 choose d (r ∷ rows) P f =
     let t = f r (List·Memᴰ·head refl) in
@@ -105,7 +108,8 @@ module _ (d : ℕ) (xs ys : List ℕ) (A : Rows d xs) (B : Rows d ys) (same : Sa
   pub row-under : (a : ℕ) → List·Memᴰ a xs → (b : ℕ) × List·Memᴰ b ys × (subset b a ≡ true)
   row-under a m = go (one-or-none (λ b. subset b a) ys)
     where
-      go : ((b : ℕ) × List·Memᴰ b ys × (subset b a ≡ true)) ⊎ ((b : ℕ) → List·Memᴰ b ys → subset b a ≡ false) → (b : ℕ) × List·Memᴰ b ys × (subset b a ≡ true)
+      go : ((b : ℕ) × List·Memᴰ b ys × (subset b a ≡ true)) ⊎ ((b : ℕ) → List·Memᴰ b ys → subset b a ≡ false)
+          → (b : ℕ) × List·Memᴰ b ys × (subset b a ≡ true)
       go (inl t) = t
       go (inr none) =
           let c = choose d ys (λ v. has a v ≡ false) (λ r k. row-outside d r a (B r k) (none r k)) in
@@ -156,7 +160,8 @@ module _ (d : ℕ) (xs ys : List ℕ) (A : Rows d xs) (B : Rows d ys) (same : Sa
           omega (arith, met .2, rank-bound d ys (F .mates) (F .pairing), size-by-values p (F .mates) (P .apart) (λ v o. F .seated v (used v o)))
 
 -- a minimal row has a copy in every list with the same family
-pub minimal-copy : (d : ℕ) (xs ys : List ℕ) → Rows d xs → Rows d ys → SameFamily d xs ys → (a : ℕ) → List·Memᴰ a xs → minimal xs a ≡ true → List·Memᴰ a ys
+pub minimal-copy : (d : ℕ) (xs ys : List ℕ) → Rows d xs → Rows d ys → SameFamily d xs ys → (a : ℕ) → List·Memᴰ a xs → minimal xs a ≡ true
+    → List·Memᴰ a ys
 minimal-copy d xs ys A B same a m e =
     let b = row-under d xs ys A B same a m in
     let c = row-under d ys xs B A (same-sym d xs ys same) (b .0) (b .1) in

@@ -1,5 +1,6 @@
 -- Swap rows: a largest pairing m can use every row that any pairing n of the same rows uses.
--- If a row has a mate in n and none in m, then n's value there has a row in m, or m could grow; move the value to n's row, and m agrees with n in one place more.
+-- If a row has a mate in n and none in m, then n's value there has a row in m, or m could grow;
+-- move the value to n's row, and m agrees with n in one place more.
 -- Assumes nothing.
 use Prim.Native.Nat.{ℕ, zero, suc, _≤_, _<_}
 use mathlib.Core.Path.{_≡_, sym, ap, _∙_, subst}
@@ -8,7 +9,8 @@ use mathlib.Core.List.{List}
 use native.Mathlib.Omega.{arith}
 use lib.ListN.{length, set, length-set}
 use Rattle.theory.specs.Pairings.{size, at, Seated, Pairing, Largest}
-use Rattle.theory.proofs.Places.{Mate, mate?, not-mate, at-less, search-below, descend, seated?, at-other, size-more, size-less, differ, differ-copy, differ-store}
+use Rattle.theory.proofs.Places.{Mate, mate?, not-mate, at-less, search-below, descend, seated?, at-other, size-more}
+use Rattle.theory.proofs.Places.{size-less, differ, differ-copy, differ-store}
 use Rattle.theory.proofs.PairingSteps.{pairing-put, pairing-drop, left-over, taken}
 
 -- row i has a mate in n and none in m, or one in m where it has one in n

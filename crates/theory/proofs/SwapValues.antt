@@ -1,5 +1,6 @@
 -- Swap values: the rows that have mates in a largest pairing n can be given every value that any pairing m of the same rows uses.
--- If a value of m is missing from n, then the row that m gives it has a mate in n, or n could grow; put m's value there, and n agrees with m in one place more.
+-- If a value of m is missing from n, then the row that m gives it has a mate in n, or n could grow;
+-- put m's value there, and n agrees with m in one place more.
 -- Assumes nothing.
 use Prim.Native.Nat.{ℕ, zero, suc, _≤_, _<_}
 use mathlib.Core.Path.{_≡_, sym, ap, _∙_, subst}

@@ -20,21 +20,25 @@ use Rattle.minimal.proofs.repeats.Reads as repeats-reads
 use Rattle.sets.proofs.with.Reads as with-reads
 
 abbrev Inv-loop : tie.InvT-loop
-Inv-loop rows singles next₀ head₀ sizes₀ left₀ next head sizes left = Chains rows next head left × Sizes rows left sizes × (length next ≡ length next₀) × (left ≤ length rows)
+Inv-loop rows singles next₀ head₀ sizes₀ left₀ next head sizes left =
+    Chains rows next head left × Sizes rows left sizes × (length next ≡ length next₀) × (left ≤ length rows)
 
 abbrev μ-loop : tie.MeasureT-loop
 μ-loop rows singles next₀ head₀ sizes₀ left₀ next head sizes left = left
 
 -- the row has no more values than a word has bits
-few : (c : tie.After-shared-slice-known2 Inv-loop μ-loop) → ones (at (c .before .before .before .before .before .before .args .rows .now) (c .before .before .loop .left - 1)) ≤ wordBits
+few : (c : tie.After-shared-slice-known2 Inv-loop μ-loop)
+    → ones (at (c .before .before .before .before .before .before .args .rows .now) (c .before .before .loop .left - 1)) ≤ wordBits
 few c = let l = c .before .before in ones-le wordBits (at (c .before .before .before .before .before .before .args .rows .now) (l .loop .left - 1)) (c .shared-slice-known2 .given (l .loop .left - 1) .fits)
 
 -- and at least one
-some : (c : tie.After-shared-slice-known2 Inv-loop μ-loop) → zero < ones (at (c .before .before .before .before .before .before .args .rows .now) (c .before .before .loop .left - 1))
+some : (c : tie.After-shared-slice-known2 Inv-loop μ-loop)
+    → zero < ones (at (c .before .before .before .before .before .before .args .rows .now) (c .before .before .loop .left - 1))
 some c =
     let l = c .before .before in
     let h : l .loop .left - 1 < length (c .before .before .before .before .before .before .args .rows .now) = omega (arith, l .loop .inv .3, c .before .loop-test .taken) in
-    some-ones (at (c .before .before .before .before .before .before .args .rows .now) (l .loop .left - 1)) (c .before .before .before .before .before .before .pre .0 .1 (l .loop .left - 1) h)
+    some-ones (at (c .before .before .before .before .before .before .args .rows .now) (l .loop .left - 1))
+    (c .before .before .before .before .before .before .pre .0 .1 (l .loop .left - 1) h)
 
 -- a row that is no candidate is left out
 skipped : (c : tie.In-loop Inv-loop μ-loop) → (Candidate (c .before .before .before .before .before .args .rows .now) (c .before .loop .left - 1) → ⊥)
@@ -70,7 +74,12 @@ slice-read-next : tie.Need-slice-read-next Inv-loop μ-loop
 slice-read-next c = omega (arith, few (c .before .before .before .before), c .before .before .before .before .before .before .loop .inv .0 .wide)
 
 cast-next : tie.Need-cast-next Inv-loop μ-loop
-cast-next c = record { fits = omega (arith, c .slice-known3 .given (ones (at (c .before .before .before .before .before .before .before .before .before .before .args .rows .now) (c .before .before .before .before .before .before .loop .left - 1))) .fits) }
+cast-next c = record {
+  fits = omega (
+    arith,
+    c .slice-known3 .given (ones (at (c .before .before .before .before .before .before .before .before .before .before .args .rows .now) (c .before .before .before .before .before .before .loop .left - 1))) .fits,
+  );
+}
 
 mul-next-2 : tie.Need-mul-next-2 Inv-loop μ-loop
 mul-next-2 c = search needs
@@ -106,7 +115,8 @@ loop-again c =
       clear = apart-clear (e .args .rows .now) (e .args .singles) (e .pre .0 .2) (at (e .args .rows .now) (l .loop .left - 1)) (c .before .before .before .before .if1 .taken);
       new = c .before .before .before .repeats .ensures .1 (not-true _ (c .before .before .if2 .taken));
     } in (
-      chains-more (e .args .rows .now) (l .loop .left) (l .loop .left - 1) one (l .loop .next) (l .loop .head) (l .loop .inv .0) (omega arith) judge (omega arith),
+      chains-more (e .args .rows .now) (l .loop .left) (l .loop .left - 1) one (l .loop .next) (l .loop .head) (l .loop .inv .0)
+          (omega arith) judge (omega arith),
       subst (Sizes (e .args .rows .now) (l .loop .left - 1)) (sym (c .with .ensures)) (sizes-more (e .args .rows .now) (l .loop .left) (l .loop .left - 1) one (l .loop .sizes) (omega (arith, h, some (c .before .before .before .before .before))) (l .loop .inv .1)),
       length-set (l .loop .next) (l .loop .left - 1) (at (l .loop .head) (ones (at (e .args .rows .now) (l .loop .left - 1)))) ∙ l .loop .inv .2,
       omega arith,

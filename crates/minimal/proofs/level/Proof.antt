@@ -1,4 +1,5 @@
--- `minimal::level` meets its contract. The invariant: the rows of the chain before `place` are judged, and the tags are those of its minimal rows. Assumes nothing.
+-- `minimal::level` meets its contract.
+-- The invariant: the rows of the chain before `place` are judged, and the tags are those of its minimal rows. Assumes nothing.
 use Prim.Native.Nat.{ℕ, _+_, _-_, _≤_, _<_}
 use mathlib.Core.Path.{_≡_, refl, sym, ap, subst, _∙_}
 use mathlib.Core.Logic.{inl, inr}
@@ -20,17 +21,20 @@ use Rattle.minimal.proofs.tag.Reads as tag-reads
 use Rattle.minimal.proofs.to_test.Reads as to-test-reads
 
 abbrev Inv-loop : tie.InvT-loop
-Inv-loop rows next head k keep₀ mins₀ found₀ base tags₀ place₀ keep mins found tags place = Walk rows keep mins found k place × Tagged mins base found k tags × (length mins ≡ length mins₀)
+Inv-loop rows next head k keep₀ mins₀ found₀ base tags₀ place₀ keep mins found tags place =
+    Walk rows keep mins found k place × Tagged mins base found k tags × (length mins ≡ length mins₀)
 
 abbrev μ-loop : tie.MeasureT-loop
 μ-loop rows next head k keep₀ mins₀ found₀ base tags₀ place₀ keep mins found tags place = length rows - place
 
 -- there is room for one more minimal row
-room : (c : tie.In-loop Inv-loop μ-loop) → c .before .loop .found < length (c .before .before .before .before .before .before .before .before .args .rows .now)
+room : (c : tie.In-loop Inv-loop μ-loop)
+    → c .before .loop .found < length (c .before .before .before .before .before .before .before .before .args .rows .now)
 room c = walk-room (c .before .before .before .before .before .before .before .before .pre .0 .2) (c .before .loop .inv .0) (c .loop-test .taken)
 
 -- the next place of the chain is further on
-on : (c : tie.In-loop Inv-loop μ-loop) → c .before .loop .place < at (c .before .before .before .before .before .before .before .before .args .next .now) (c .before .loop .place)
+on : (c : tie.In-loop Inv-loop μ-loop)
+    → c .before .loop .place < at (c .before .before .before .before .before .before .before .before .args .next .now) (c .before .loop .place)
 on c = walk-on (c .before .before .before .before .before .before .before .before .pre .0 .2) (c .before .loop .inv .0) (c .loop-test .taken)
 
 mul-place : tie.Need-mul-place Inv-loop μ-loop
@@ -40,7 +44,8 @@ shared-slice-read-place : tie.Need-shared-slice-read-place Inv-loop μ-loop
 shared-slice-read-place c = let e = c .before .before .before .before .before .before in omega (arith, e .pre .0 .2 .wide)
 
 cast-place : tie.Need-cast-place Inv-loop μ-loop
-cast-place c = let e = c .before .before .before .before .before .before in record { fits = omega (arith, c .shared-slice-known4 .given (e .args .k) .fits) }
+cast-place c =
+    let e = c .before .before .before .before .before .before in record { fits = omega (arith, c .shared-slice-known4 .given (e .args .k) .fits) }
 
 loop-holds : tie.Need-loop-holds Inv-loop μ-loop
 loop-holds c = let e = c .before .before .before .before .before .before in (walk-start (e .pre .0 .2) (e .pre .0 .0) (e .pre .1), tagged-start (e .args .mins .now) (e .args .found) (e .args .k) (replicate tagWords 0) refl, refl)
@@ -74,7 +79,8 @@ none-within-requires c κs =
     elim (c .to-test .ensures) [ inl q ↦ omega arith | inr q ↦ omega (arith, q .0, l .loop .inv .1 .least) ]
 
 slice-write-keep : tie.Need-slice-write-keep Inv-loop μ-loop
-slice-write-keep c = let l = c .before .before .before .before .before .before .before .before .before in omega (arith, l .loop .inv .0 .sieve .marks .long)
+slice-write-keep c =
+    let l = c .before .before .before .before .before .before .before .before .before in omega (arith, l .loop .inv .0 .sieve .marks .long)
 
 mul-mins : tie.Need-mul-mins Inv-loop μ-loop
 mul-mins c = let h = room (c .before .before .before .before .before .before .before .before) in search needs
@@ -106,7 +112,9 @@ loop-again c =
     let o = c .before .add-tag in
     let long : l .loop .found < length (l .loop .mins) = omega (arith, room (c .before .before .before .before .before .before .before .before .before .before .before), l .loop .inv .2, e .pre .0 .1) in (
       walk-hit (e .pre .0 .2) (l .loop .inv .0) taken (scanned .none (c .before .before .before .if1 .taken)) long,
-      subst (Tagged (set (l .loop .mins) (l .loop .found) x) (e .args .found) (l .loop .found + 1) (e .args .k)) (sym (o .ensures ∙ ap (withTag (l .loop .tags)) (c .before .before .before .before .before .before .before .before .tag .ensures))) (tagged-more (l .loop .inv .1) x count long),
+      subst (Tagged (set (l .loop .mins) (l .loop .found) x) (e .args .found) (l .loop .found + 1) (e .args .k))
+          (sym (o .ensures ∙ ap (withTag (l .loop .tags)) (c .before .before .before .before .before .before .before .before .tag .ensures)))
+          (tagged-more (l .loop .inv .1) x count long),
       length-set (l .loop .mins) (l .loop .found) x ∙ l .loop .inv .2,
     )
 

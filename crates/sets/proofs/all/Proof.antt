@@ -13,7 +13,11 @@ shl-result : tie.Need-shl-result
 shl-result c = search needs
 
 sub-result : tie.Need-sub-result
-sub-result c = omega (arith, pow-pos (c .before .args .d), shl-exact 1 (c .before .args .d) wordBits (omega arith) (omega arith) ∙ one-mul (2 ^ c .before .args .d))
+sub-result c = omega (
+  arith,
+  pow-pos (c .before .args .d),
+  shl-exact 1 (c .before .args .d) wordBits (omega arith) (omega arith) ∙ one-mul (2 ^ c .before .args .d),
+)
 
 returns : tie.Need-returns
 returns c = ap (λ (x : ℕ). x - 1) (shl-exact 1 (c .before .args .d) wordBits (omega arith) (omega arith) ∙ one-mul (2 ^ c .before .args .d))

@@ -32,7 +32,8 @@ within-requires c κs = search needs
 returns : tie.Need-returns Inv-loop μ-loop
 returns c =
     let at = c .before .before .before .before in
-    sym (at .loop .inv .1 ∙ bad-here _ _ _ (c .before .before .before .loop-test .taken) (sym (c .before .within .ensures) ∙ not-true _ (c .if1 .taken)))
+    sym
+    (at .loop .inv .1 ∙ bad-here _ _ _ (c .before .before .before .loop-test .taken) (sym (c .before .within .ensures) ∙ not-true _ (c .if1 .taken)))
 
 add-i : tie.Need-add-i Inv-loop μ-loop
 add-i c = search needs

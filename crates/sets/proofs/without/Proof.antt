@@ -17,7 +17,9 @@ minus-requires : tie.Need-minus-requires
 minus-requires c κs = search needs
 
 returns : tie.Need-returns
-returns c = c .minus .ensures ∙ ap (minus (c .before .args .set)) (shl-exact 1 (c .before .args .v) wordBits (omega arith) (omega arith) ∙ one-mul (2 ^ c .before .args .v))
+returns c =
+    c .minus .ensures
+    ∙ ap (minus (c .before .args .set)) (shl-exact 1 (c .before .args .v) wordBits (omega arith) (omega arith) ∙ one-mul (2 ^ c .before .args .v))
 
 pub without-spec : {M : Type 1} → statement M
 without-spec = tie.close (tie.spec shl-minus minus-requires returns)

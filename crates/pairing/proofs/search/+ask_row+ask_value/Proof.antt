@@ -1,4 +1,5 @@
--- `ask_row` and `ask_value`, which ask each other, meet their contracts: one proof for the cycle. The number that falls is that of the rows not asked yet. Assumes nothing.
+-- `ask_row` and `ask_value`, which ask each other, meet their contracts: one proof for the cycle.
+-- The number that falls is that of the rows not asked yet. Assumes nothing.
 use borrow.Author.Needs.{needs}
 use mathlib.Core.Path.{_≡_, sym, ap, subst, _∙_}
 use Prim.Native.Nat.{suc, _+_, _*_, _-_}
@@ -10,7 +11,8 @@ use Rattle.sets.specs.Sets.{has}
 use Rattle.sets.proofs.Values.{with-new}
 use Rattle.theory.specs.Pairings.{at}
 use Rattle.pairing.specs.Asking.{unasked, Asks, OfRow}
-use Rattle.pairing.proofs.AskSteps.{Turn, row-takes, row-asks, row-moved, row-stays, turn-start, turn-next, turn-none, turn-end, turn-row, turn-less, turn-falls, turn-pass, turn-found, turn-again}
+use Rattle.pairing.proofs.AskSteps.{Turn, row-takes, row-asks, row-moved, row-stays, turn-start, turn-next, turn-none}
+use Rattle.pairing.proofs.AskSteps.{turn-end, turn-row, turn-less, turn-falls, turn-pass, turn-found, turn-again}
 use Prim.Native.Nat.{ℕ, _<_}
 use borrow.Fn.Kinds.{In}
 use borrow.Fn.PlainCycle.{Measures, is, falls, and}
@@ -89,7 +91,8 @@ ask-row-returns :
     ask-row-lts.Need-returns (ask-value-below t, ask-value.Post) (ask-row-at t) ask-row.Post
 ask-row-returns t c =
     let e = c .before .before .before .before .before in
-    row-takes (e .args .v) (e .args .rows .now) (e .args .columns .now) (e .args .heavy) (e .args .mates .now) (e .pre .1 .0) (e .args .i) (e .pre .1 .1 .0) (e .pre .1 .1 .1) (e .args .asked .now) (c .if1 .taken)
+    row-takes (e .args .v) (e .args .rows .now) (e .args .columns .now) (e .args .heavy) (e .args .mates .now) (e .pre .1 .0) (e .args .i)
+    (e .pre .1 .1 .0) (e .pre .1 .1 .1) (e .args .asked .now) (c .if1 .taken)
 
 ask-row-sub-ask-value : (t : ℕ) → ask-row-lts.Need-sub-ask-value (
   ask-value-below t,
@@ -124,7 +127,9 @@ ask-row-returns-2 t c =
     let o = c .before .before .before .ask-value in
     let w = at (e .args .mates .now) (e .args .i) - 1 in
     let mate : at (e .args .mates .now) (e .args .i) ≡ suc w = omega (arith, c .before .before .before .before .before .before .if1 .left) in
-    row-moved (e .args .v) (e .args .rows .now) (e .args .columns .now) (e .args .heavy) (e .args .mates .now) (e .pre .1 .0) (e .args .i) (e .pre .1 .1 .0) (e .pre .1 .1 .1) w mate (o .result) (e .args .asked .now) (o .last .1 .1 .1 .1 .0) (o .last .1 .1 .1 .1 .1 .0) (o .ensures) (c .if2 .taken)
+    row-moved (e .args .v) (e .args .rows .now) (e .args .columns .now) (e .args .heavy) (e .args .mates .now) (e .pre .1 .0) (e .args .i)
+    (e .pre .1 .1 .0) (e .pre .1 .1 .1) w mate (o .result) (e .args .asked .now) (o .last .1 .1 .1 .1 .0) (o .last .1 .1 .1 .1 .1 .0)
+    (o .ensures) (c .if2 .taken)
 
 ask-row-mul-mates-2 :
     (t : ℕ) →
@@ -147,7 +152,8 @@ ask-row-same-length-3 : (t : ℕ) → ask-row-lts.Need-same-length-3 (
 ask-row-same-length-3 t c =
     let e = c .before .before .before .before .before .before .before .before .before .before .before in
     let o = c .before .before .before .ask-value in
-    length-set (o .last .1 .1 .1 .1 .0) (e .args .i) (at (e .args .mates .now) (e .args .i)) ∙ o .kept .1 .1 .1 .1 .0 ∙ length-set (e .args .mates .now) (e .args .i) (e .args .v + 1)
+    length-set (o .last .1 .1 .1 .1 .0) (e .args .i) (at (e .args .mates .now) (e .args .i)) ∙ o .kept .1 .1 .1 .1 .0
+    ∙ length-set (e .args .mates .now) (e .args .i) (e .args .v + 1)
 
 ask-row-returns-3 :
     (t : ℕ) →
@@ -157,7 +163,9 @@ ask-row-returns-3 t c =
     let o = c .before .before .before .ask-value in
     let w = at (e .args .mates .now) (e .args .i) - 1 in
     let mate : at (e .args .mates .now) (e .args .i) ≡ suc w = omega (arith, c .before .before .before .before .before .before .if1 .left) in
-    row-stays (e .args .v) (e .args .rows .now) (e .args .columns .now) (e .args .heavy) (e .args .mates .now) (e .pre .1 .0) (e .args .i) (e .pre .1 .1 .0) (e .pre .1 .1 .1) w mate (o .result) (e .args .asked .now) (o .last .1 .1 .1 .1 .0) (o .last .1 .1 .1 .1 .1 .0) (e .pre .1 .1 .2) (o .ensures) (c .if2 .left)
+    row-stays (e .args .v) (e .args .rows .now) (e .args .columns .now) (e .args .heavy) (e .args .mates .now) (e .pre .1 .0) (e .args .i)
+    (e .pre .1 .1 .0) (e .pre .1 .1 .1) w mate (o .result) (e .args .asked .now) (o .last .1 .1 .1 .1 .0) (o .last .1 .1 .1 .1 .1 .0)
+    (e .pre .1 .1 .2) (o .ensures) (c .if2 .left)
 
 abbrev ask-value-Inv-loop : ask-value-lts.InvT-loop
 ask-value-Inv-loop v rows columns heavy mates₀ asked₀ left₀ mates asked left = Turn v rows mates₀ asked₀ mates asked left
@@ -215,7 +223,8 @@ ask-value-loop-holds : (t : ℕ) → ask-value-lts.Need-loop-holds (
 ) (ask-value-at t) ask-value.Post ask-value-Inv-loop ask-value-μ-loop
 ask-value-loop-holds t c =
     let e = c .before .before .before .before in
-    turn-start (e .args .v) (e .args .rows .now) (e .args .mates .now) (e .args .asked .now) (e .args .columns .now) (e .args .heavy) (e .pre .1 .index)
+    turn-start (e .args .v) (e .args .rows .now) (e .args .mates .now) (e .args .asked .now) (e .args .columns .now) (e .args .heavy)
+    (e .pre .1 .index)
     (or-lt wordBits (at (e .args .columns .now) (e .args .v)) (e .args .heavy) (c .shared-slice-known3 .given (e .args .v) .fits) (e .fits .heavy .fits))
 
 ask-value-minus-requires : (t : ℕ) → ask-value-lts.Need-minus-requires (
@@ -362,7 +371,8 @@ ask-value-shared-slice-read-has t c =
     let l = c .before .before .before .before .before .loop in
     let k = c .before .before in
     let next = turn-next (e .args .v) (e .args .rows .now) (e .args .mates .now) (e .args .asked .now) (l .mates) (l .asked) (l .left) (l .inv) (k .before .before .minus .result) (k .before .top .result) (k .before .before .minus .ensures) (k .before .top .ensures) (k .if1 .left) in
-    turn-row (e .args .v) (e .args .rows .now) (e .args .mates .now) (e .args .asked .now) (l .mates) (l .asked) (l .left) (l .inv) (k .before .top .result - 1) (next .1)
+    turn-row (e .args .v) (e .args .rows .now) (e .args .mates .now) (e .args .asked .now) (l .mates) (l .asked) (l .left) (l .inv)
+    (k .before .top .result - 1) (next .1)
 
 ask-value-has-requires : (t : ℕ) → ask-value-lts.Need-has-requires (
   minus-reads.Asked,
@@ -422,7 +432,11 @@ ask-value-ask-row-requires t c κs =
     let next = turn-next (e .args .v) (e .args .rows .now) (e .args .mates .now) (e .args .asked .now) (l .mates) (l .asked) (l .left) (l .inv) (k .before .before .minus .result) (k .before .top .result) (k .before .before .minus .ensures) (k .before .top .ensures) (k .if1 .left) in
     let i = k .before .top .result - 1 in
     let with = c .before .before .with in (
-      omega (arith, turn-falls (e .args .v) (e .args .rows .now) (e .args .mates .now) (e .args .asked .now) (l .mates) (l .asked) (l .left) (l .inv) i (next .1) (e .pre .1 .few), ap (unasked wordBits) (with .ensures)),
+      omega (
+        arith,
+        turn-falls (e .args .v) (e .args .rows .now) (e .args .mates .now) (e .args .asked .now) (l .mates) (l .asked) (l .left) (l .inv) i (next .1) (e .pre .1 .few),
+        ap (unasked wordBits) (with .ensures),
+      ),
       (
         subst (Asks (e .args .v) (e .args .rows .now) (e .args .columns .now) (e .args .heavy)) (sym (l .inv .stuck .still)) (e .pre .1),
         (
@@ -475,7 +489,8 @@ ask-value-returns-2 t c =
     let o = c .before .before .before .ask-row in
     let i = k .before .top .result - 1 in
     let O = subst (λ (x : ℕ). OfRow (o .result) i (e .args .v) (e .args .rows .now) (l .mates) x (o .last .1 .1 .1 .1 .1 .0) (o .last .1 .1 .1 .1 .1 .1 .0)) (c .before .before .before .before .before .before .with .ensures) (o .ensures) in
-    turn-found (e .args .v) (e .args .rows .now) (e .args .mates .now) (e .args .asked .now) (l .mates) (l .asked) (l .left) (l .inv) i (next .1) (o .result) (o .last .1 .1 .1 .1 .1 .0) (o .last .1 .1 .1 .1 .1 .1 .0) O (c .if3 .taken)
+    turn-found (e .args .v) (e .args .rows .now) (e .args .mates .now) (e .args .asked .now) (l .mates) (l .asked) (l .left) (l .inv) i
+    (next .1) (o .result) (o .last .1 .1 .1 .1 .1 .0) (o .last .1 .1 .1 .1 .1 .1 .0) O (c .if3 .taken)
 
 ask-value-loop-less : (t : ℕ) → ask-value-lts.Need-loop-less (
   minus-reads.Asked,
@@ -496,7 +511,11 @@ ask-value-loop-less t c =
     let l = c .before .before .before .before .before .before .before .before .before .before .before .before .before .before .before .loop in
     let k = c .before .before .before .before .before .before .before .before .before .before .before .before in
     let next = turn-next (e .args .v) (e .args .rows .now) (e .args .mates .now) (e .args .asked .now) (l .mates) (l .asked) (l .left) (l .inv) (k .before .before .minus .result) (k .before .top .result) (k .before .before .minus .ensures) (k .before .top .ensures) (k .if1 .left) in
-    omega (arith, c .before .before .before .before .before .before .before .before .before .before .before .without .ensures, turn-less (e .args .v) (e .args .rows .now) (e .args .mates .now) (e .args .asked .now) (l .mates) (l .asked) (l .left) (l .inv) (k .before .top .result - 1) (next .1))
+    omega (
+      arith,
+      c .before .before .before .before .before .before .before .before .before .before .before .without .ensures,
+      turn-less (e .args .v) (e .args .rows .now) (e .args .mates .now) (e .args .asked .now) (l .mates) (l .asked) (l .left) (l .inv) (k .before .top .result - 1) (next .1),
+    )
 
 ask-value-loop-again : (t : ℕ) → ask-value-lts.Need-loop-again (
   minus-reads.Asked,
@@ -542,7 +561,11 @@ ask-value-loop-less-2 t c =
     let l = c .before .before .before .before .before .before .before .loop in
     let k = c .before .before .before .before in
     let next = turn-next (e .args .v) (e .args .rows .now) (e .args .mates .now) (e .args .asked .now) (l .mates) (l .asked) (l .left) (l .inv) (k .before .before .minus .result) (k .before .top .result) (k .before .before .minus .ensures) (k .before .top .ensures) (k .if1 .left) in
-    omega (arith, c .before .before .before .without .ensures, turn-less (e .args .v) (e .args .rows .now) (e .args .mates .now) (e .args .asked .now) (l .mates) (l .asked) (l .left) (l .inv) (k .before .top .result - 1) (next .1))
+    omega (
+      arith,
+      c .before .before .before .without .ensures,
+      turn-less (e .args .v) (e .args .rows .now) (e .args .mates .now) (e .args .asked .now) (l .mates) (l .asked) (l .left) (l .inv) (k .before .top .result - 1) (next .1),
+    )
 
 ask-value-loop-again-2 : (t : ℕ) → ask-value-lts.Need-loop-again-2 (
   minus-reads.Asked,
@@ -564,7 +587,8 @@ ask-value-loop-again-2 t c =
     let k = c .before .before .before .before in
     let next = turn-next (e .args .v) (e .args .rows .now) (e .args .mates .now) (e .args .asked .now) (l .mates) (l .asked) (l .left) (l .inv) (k .before .before .minus .result) (k .before .top .result) (k .before .before .minus .ensures) (k .before .top .ensures) (k .if1 .left) in
     let i = k .before .top .result - 1 in
-    subst (Turn (e .args .v) (e .args .rows .now) (e .args .mates .now) (e .args .asked .now) (l .mates) (l .asked)) (sym (c .before .before .before .without .ensures))
+    subst (Turn (e .args .v) (e .args .rows .now) (e .args .mates .now) (e .args .asked .now) (l .mates) (l .asked))
+    (sym (c .before .before .before .without .ensures))
     (turn-pass (e .args .v) (e .args .rows .now) (e .args .mates .now) (e .args .asked .now) (l .mates) (l .asked) (l .left) (l .inv) i (next .1) (sym (c .before .has .ensures) ∙ c .if2 .left))
 
 pub +ask-row+ask-value-spec : {M : Type 1} → statement M

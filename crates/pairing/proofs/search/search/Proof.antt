@@ -64,7 +64,8 @@ loop-again c =
     let l = c .before .before .before .before .before .before .before .before .before .loop in
     let v = c .before .before .before .before .before .before .before in
     let o = c .before .before .before .ask-value in
-    round-again (l .inv) (v .lowest .ensures) (v .before .if1 .left) (o .ensures) _ (c .before .before .before .before .before .before .rest .ensures) (c .if2 .left)
+    round-again (l .inv) (v .lowest .ensures) (v .before .if1 .left) (o .ensures) _
+    (c .before .before .before .before .before .before .rest .ensures) (c .if2 .left)
 
 pub search-spec : {M : Type 1} → statement M
 search-spec =

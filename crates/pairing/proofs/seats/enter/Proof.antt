@@ -30,7 +30,12 @@ slice-read-with : tie.Need-slice-read-with Inv-loop μ-loop
 slice-read-with c =
     let e = c .before .before .before .before .before .before in
     let l = c .before .before .before .before in
-    omega (arith, enter-small (l .loop .inv) (c .before .before .lowest .ensures) (c .before .before .before .loop-test .taken), l .loop .inv .wide, e .pre .1)
+    omega (
+      arith,
+      enter-small (l .loop .inv) (c .before .before .lowest .ensures) (c .before .before .before .loop-test .taken),
+      l .loop .inv .wide,
+      e .pre .1,
+    )
 
 with-requires : tie.Need-with-requires Inv-loop μ-loop
 with-requires c κs = search needs
@@ -39,24 +44,36 @@ mul-columns : tie.Need-mul-columns Inv-loop μ-loop
 mul-columns c =
     let e = c .before .before .before .before .before .before .before in
     let l = c .before .before .before .before .before in
-    record { fits = omega (arith, enter-small (l .loop .inv) (c .before .before .before .lowest .ensures) (c .before .before .before .before .loop-test .taken)) }
+    record {
+      fits = omega (
+        arith,
+        enter-small (l .loop .inv) (c .before .before .before .lowest .ensures) (c .before .before .before .before .loop-test .taken),
+      );
+    }
 
 slice-write-columns : tie.Need-slice-write-columns Inv-loop μ-loop
 slice-write-columns c =
     let e = c .before .before .before .before .before .before .before in
     let l = c .before .before .before .before .before in
-    omega (arith, enter-small (l .loop .inv) (c .before .before .before .lowest .ensures) (c .before .before .before .before .loop-test .taken), l .loop .inv .wide, e .pre .1)
+    omega (
+      arith,
+      enter-small (l .loop .inv) (c .before .before .before .lowest .ensures) (c .before .before .before .before .loop-test .taken),
+      l .loop .inv .wide,
+      e .pre .1,
+    )
 
 loop-less : tie.Need-loop-less Inv-loop μ-loop
 loop-less c =
     let l = c .before .before .before .before .before in
-    enter-less (l .loop .inv) (c .before .before .before .lowest .ensures) (c .before .before .before .before .loop-test .taken) _ (c .before .before .rest .ensures)
+    enter-less (l .loop .inv) (c .before .before .before .lowest .ensures) (c .before .before .before .before .loop-test .taken) _
+    (c .before .before .rest .ensures)
 
 loop-again : tie.Need-loop-again Inv-loop μ-loop
 loop-again c =
     let e = c .before .before .before .before .before .before .before in
     let l = c .before .before .before .before .before in
-    enter-next (l .loop .inv) (c .before .before .before .lowest .ensures) (c .before .before .before .before .loop-test .taken) (e .pre .1) _ _ (c .before .before .rest .ensures) (c .with .ensures)
+    enter-next (l .loop .inv) (c .before .before .before .lowest .ensures) (c .before .before .before .before .loop-test .taken)
+    (e .pre .1) _ _ (c .before .before .rest .ensures) (c .with .ensures)
 
 same-length : tie.Need-same-length Inv-loop μ-loop
 same-length c = c .before .loop .inv .wide

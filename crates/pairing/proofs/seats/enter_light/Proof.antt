@@ -31,7 +31,11 @@ enter-requires : tie.Need-enter-requires Inv-loop μ-loop
 enter-requires c κs = (omega (arith, c .before .before .before .loop-test .taken, c .before .before .before .before .before .before .before .pre .0), c .before .before .before .before .loop .inv .wide)
 
 without-requires : tie.Need-without-requires Inv-loop μ-loop
-without-requires c κs = omega (arith, c .before .before .before .before .before .before .loop-test .taken, c .before .before .before .before .before .before .before .before .before .before .pre .0)
+without-requires c κs = omega (
+  arith,
+  c .before .before .before .before .before .before .loop-test .taken,
+  c .before .before .before .before .before .before .before .before .before .before .pre .0,
+)
 
 loop-less : tie.Need-loop-less Inv-loop μ-loop
 loop-less c = search needs

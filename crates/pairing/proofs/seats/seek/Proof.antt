@@ -115,7 +115,11 @@ slice-reshare-prefix-unreached c =
     let f = c .before .before .before .before .before .before .before .before .before in
     let o = c .before .before .before .search in
     let long = length-take-le (e .args .s .used + 1) (set (e .args .mates .now) (e .args .s .used) 0) (omega (arith, e .pre .0, e .pre .1 .mates-wide, length-set (e .args .mates .now) (e .args .s .used) 0)) in
-    omega (arith, e .pre .0, seek-long (e .args .row) (e .args .s) (e .args .rows .now) (e .args .columns .now) (e .args .mates .now) (e .pre .1) (e .pre .2) (e .pre .0) (x .last .1 .1 .1 .0) (x .result) (x .ensures) (f .minus2 .result) (f .minus2 .ensures ∙ ap (minus (e .args .s .free)) (f .before .minus .ensures)) (o .result) (o .last .1 .1 .1 .1 .0) (o .last .1 .1 .1 .1 .1 .0) (o .ensures) (o .kept .1 .1 .1 .1 .0 ∙ long))
+    omega (
+      arith,
+      e .pre .0,
+      seek-long (e .args .row) (e .args .s) (e .args .rows .now) (e .args .columns .now) (e .args .mates .now) (e .pre .1) (e .pre .2) (e .pre .0) (x .last .1 .1 .1 .0) (x .result) (x .ensures) (f .minus2 .result) (f .minus2 .ensures ∙ ap (minus (e .args .s .free)) (f .before .minus .ensures)) (o .result) (o .last .1 .1 .1 .1 .0) (o .last .1 .1 .1 .1 .1 .0) (o .ensures) (o .kept .1 .1 .1 .1 .0 ∙ long),
+    )
 
 slice-aggregate-unreached : tie.Need-slice-aggregate-unreached
 slice-aggregate-unreached c =
@@ -133,7 +137,10 @@ unreached-requires c κs =
     let f = c .before .before .before .before .before .before .before .before .before .before in
     let o = c .before .before .before .before .search in
     let long = length-take-le (e .args .s .used + 1) (set (e .args .mates .now) (e .args .s .used) 0) (omega (arith, e .pre .0, e .pre .1 .mates-wide, length-set (e .args .mates .now) (e .args .s .used) 0)) in
-    seek-mates (e .args .row) (e .args .s) (e .args .rows .now) (e .args .columns .now) (e .args .mates .now) (e .pre .1) (e .pre .2) (e .pre .0) (x .last .1 .1 .1 .0) (x .result) (x .ensures) (f .minus2 .result) (f .minus2 .ensures ∙ ap (minus (e .args .s .free)) (f .before .minus .ensures)) (o .result) (o .last .1 .1 .1 .1 .0) (o .last .1 .1 .1 .1 .1 .0) (o .ensures) (o .kept .1 .1 .1 .1 .0 ∙ long) (c .before .if1 .left)
+    seek-mates (e .args .row) (e .args .s) (e .args .rows .now) (e .args .columns .now) (e .args .mates .now) (e .pre .1) (e .pre .2)
+    (e .pre .0) (x .last .1 .1 .1 .0) (x .result) (x .ensures) (f .minus2 .result)
+    (f .minus2 .ensures ∙ ap (minus (e .args .s .free)) (f .before .minus .ensures)) (o .result) (o .last .1 .1 .1 .1 .0)
+    (o .last .1 .1 .1 .1 .1 .0) (o .ensures) (o .kept .1 .1 .1 .1 .0 ∙ long) (c .before .if1 .left)
 
 same-length-4 : tie.Need-same-length-4
 same-length-4 c = search needs
@@ -157,7 +164,11 @@ returns-2 c =
     let f = c .before .before .before .before .before .before .before .before .before .before .before in
     let o = c .before .before .before .before .before .search in
     let long = length-take-le (e .args .s .used + 1) (set (e .args .mates .now) (e .args .s .used) 0) (omega (arith, e .pre .0, e .pre .1 .mates-wide, length-set (e .args .mates .now) (e .args .s .used) 0)) in
-    seek-lost (e .args .row) (e .args .s) (e .args .rows .now) (e .args .columns .now) (e .args .mates .now) (e .pre .1) (e .pre .2) (e .pre .0) (x .last .1 .1 .1 .0) (x .result) (x .ensures) (f .minus2 .result) (f .minus2 .ensures ∙ ap (minus (e .args .s .free)) (f .before .minus .ensures)) (o .result) (o .last .1 .1 .1 .1 .0) (o .last .1 .1 .1 .1 .1 .0) (o .ensures) (o .kept .1 .1 .1 .1 .0 ∙ long) (c .before .before .if1 .left) (c .unreached .result) (c .unreached .ensures)
+    seek-lost (e .args .row) (e .args .s) (e .args .rows .now) (e .args .columns .now) (e .args .mates .now) (e .pre .1) (e .pre .2)
+    (e .pre .0) (x .last .1 .1 .1 .0) (x .result) (x .ensures) (f .minus2 .result)
+    (f .minus2 .ensures ∙ ap (minus (e .args .s .free)) (f .before .minus .ensures)) (o .result) (o .last .1 .1 .1 .1 .0)
+    (o .last .1 .1 .1 .1 .1 .0) (o .ensures) (o .kept .1 .1 .1 .1 .0 ∙ long) (c .before .before .if1 .left) (c .unreached .result)
+    (c .unreached .ensures)
 
 pub seek-spec : {M : Type 1} → statement M
 seek-spec =

@@ -58,7 +58,8 @@ loop-again-2 : tie.Need-loop-again-2 Inv-loop μ-loop
 loop-again-2 c =
     let e = c .before .before .before .before .before .before .before .args in
     let l = c .before .before .before .before .before .loop in
-    reach-pass (e .asked) (e .mates .now) (l .dead) (l .next) (l .inv) (c .before .before .before .before .loop-test .taken) (λ u m n. not-both (sym (c .before .has .ensures) ∙ not-false _ (c .if2 .left)) n)
+    reach-pass (e .asked) (e .mates .now) (l .dead) (l .next) (l .inv) (c .before .before .before .before .loop-test .taken)
+    (λ u m n. not-both (sym (c .before .has .ensures) ∙ not-false _ (c .if2 .left)) n)
 
 loop-less-3 : tie.Need-loop-less-3 Inv-loop μ-loop
 loop-less-3 c = search needs
