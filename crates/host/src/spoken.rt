@@ -5,7 +5,6 @@ use sheet::Sheet;
 use store::Answer;
 use store::Call;
 use store::Target;
-use store::refusals;
 
 // The refusal number, 0 where the call is accepted, and the values that the answer returns, 0 where it has none.
 #[repr(C)]
