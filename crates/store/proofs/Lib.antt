@@ -19,3 +19,5 @@ pub mod Trusting
 pub mod Serving
 pub mod Replying
 pub mod Determined
+pub mod Runs
+pub mod PlayedTells

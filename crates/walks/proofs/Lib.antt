@@ -1,3 +1,4 @@
--- `Walk`: what proofs by hand cite of the logic. `Lies`: a value in a local, lent and taken back.
+-- `Public`: what it is to be a public call. For proofs by hand: `Walk`: what they cite of the logic. `Lies`: a value in a local, lent and taken back.
+pub mod Public
 pub mod Walk
 pub mod Lies
