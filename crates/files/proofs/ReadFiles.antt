@@ -1,66 +1,71 @@
--- What a file has that is read: its T and d, and all its rows. Assumes nothing.
-use Prim.Native.Nat.{ℕ, zero, _+_, _*_, _≤_}
-use mathlib.Core.Path.{_≡_, refl, sym, ap}
-use mathlib.Core.Bool.{Bool, true, false, cond, not, _&&_, _||_, false≢true}
-use mathlib.Core.List.{List}
-use lib.Dec.{eqb, leb, ltb}
+-- What is known of a file that is judged: one that is read has its T, and all its rows; and what is answered once the list is looked at.
+-- Assumes nothing.
+use Prim.Native.Nat.{ℕ, _+_, _*_, _≤_}
+use mathlib.Core.Path.{_≡_, sym, ap, _∙_}
+use mathlib.Core.Logic.{_≢_, inl, inr}
+use mathlib.Core.Bool.{cond}
+use mathlib.Core.List.{List, [], _∷_}
+use native.Mathlib.Omega.{arith}
+use lib.Dec.{ltb}
 use lib.ListN.{length}
 use borrow.Author.Tests.{ltb-false}
-use Rattle.sets.specs.declared.Found.{Found}
-use Rattle.sets.specs.declared.Found.the-variants.{At, Nothing}
-use Rattle.sets.specs.Sets.{below}
-use Rattle.files.specs.declared.Fault.{Fault}
-use Rattle.files.specs.declared.Fault.the-variants.{ShortFile, WrongMark, WrongVersion, BadValues, ManyRows, ShortRows, AllUnknown}
+use Rattle.refusals.specs.declared.Refusal.{Refusal}
+use Rattle.refusals.specs.declared.Refusal.the-variants.{FewPlaces}
+use Rattle.refusals.specs.Cases.{Case, _gives_, decided}
+use Rattle.refusals.proofs.Outcomes.{NoneApplies, outcome, chained, stands, refuses, refusing}
 use Rattle.files.specs.declared.Lesson.{Lesson}
 use Rattle.files.specs.declared.Lesson.the-variants.{Read, Refused}
-use Rattle.files.specs.Rows.{lowestTo}
-use Rattle.files.specs.Files.{markIn, versionIn, valuesIn, countIn, rowIn, unionIn}
-use Rattle.files.specs.Reading.{valuesOf, countOf, judgedRows, judged}
+use Rattle.files.specs.Files.{valuesIn, countIn}
+use Rattle.files.specs.FileCases.{frontCases, fileCases}
+use Rattle.files.specs.Reading.{countOf, judged, answered}
 
-reads : Lesson → Bool
-reads (Read d t) = true
-reads (Refused f) = false
+-- no refusal is an answer that the file is read
+apart : (d t : ℕ) (r : Refusal) → Refused r ≢ Read d t
+apart d t r e = let z : _≡_ {A = ℕ} 0 1 = cc in omega arith
 
--- where a file is read, no case applied
-unrefused : (b : Bool) (f : Fault) (l : Lesson) (d t : ℕ) → cond b (Refused f) l ≡ Read d t → (b ≡ false) × (l ≡ Read d t)
-unfolding reads
-unrefused true f l d t e = absurd (false≢true (ap reads e))
-unrefused false f l d t e = (refl, e)
+same : (r s : Refusal) → Refused r ≡ Refused s → r ≡ s
+same r s e = cc
 
-rows-read : (d t all : ℕ) (found : Found) (d′ t′ : ℕ) → judgedRows d t all found ≡ Read d′ t′ → Read d t ≡ Read d′ t′
-unfolding reads
-rows-read d t all (At i) d′ t′ e = absurd (false≢true (ap reads e))
-rows-read d t all Nothing d′ t′ e = unrefused (leb 1 t && eqb all zero) AllUnknown (Read d t) d′ t′ e .1
+module _ (file : List ℕ) where
+  abbrev accepts : Lesson
+  accepts = Read (valuesIn file) (countIn file)
 
--- a file that is read
-pub record Readable (file : List ℕ) (d t : ℕ) : Type 0 where
-  pub values : d ≡ valuesIn file
-  pub count : t ≡ countIn file
-  pub most : t ≤ 256
-  pub long : 8 + 8 * t ≤ length file
+  -- where it is read, no case applies
+  read-none : (d t : ℕ) → judged file ≡ Read d t → NoneApplies (fileCases file) × (accepts ≡ Read d t)
+  unfolding judged
+  read-none d t e = elim (outcome (fileCases file)) [
+    | inl none ↦ (none, sym (stands Refused (fileCases file) none accepts) ∙ e)
+    | inr (r, g) ↦ absurd (apart d t r (sym (refuses Refused (fileCases file) r g accepts) ∙ e))
+  ]
 
-pub readable : (file : List ℕ) (d t : ℕ) → judged file ≡ Read d t → Readable file d t
-unfolding judged
-readable file d t e =
-    let n = countIn file in
-    let rows = judgedRows (valuesIn file) n (unionIn file) (lowestTo (λ i. not (below (valuesIn file) (rowIn file i))) n) in
-    let short = ltb (length file) (8 + 8 * n) in
-    let r25 : Lesson = cond short (Refused ShortRows) rows in
-    let r24 : Lesson = cond (ltb 256 n) (Refused ManyRows) r25 in
-    let r23 : Lesson = cond (eqb (valuesIn file) zero || ltb 64 (valuesIn file)) (Refused BadValues) r24 in
-    let r22 : Lesson = cond (not (eqb (versionIn file) 1)) (Refused WrongVersion) r23 in
-    let r21 : Lesson = cond (not (eqb (markIn file) 0x505654)) (Refused WrongMark) r22 in
-    let p20 = unrefused (ltb (length file) 8) ShortFile r21 d t e in
-    let p21 = unrefused (not (eqb (markIn file) 0x505654)) WrongMark r22 d t (p20 .1) in
-    let p22 = unrefused (not (eqb (versionIn file) 1)) WrongVersion r23 d t (p21 .1) in
-    let p23 = unrefused (eqb (valuesIn file) zero || ltb 64 (valuesIn file)) BadValues r24 d t (p22 .1) in
-    let p24 = unrefused (ltb 256 n) ManyRows r25 d t (p23 .1) in
-    let p25 = unrefused short ShortRows rows d t (p24 .1) in
-    let same = rows-read (valuesIn file) n (unionIn file) (lowestTo (λ i. not (below (valuesIn file) (rowIn file i))) n) d t (p25 .1) in
-    let count : t ≡ n = sym (ap countOf same) in
-    record {
-      values = sym (ap valuesOf same);
-      count = count;
-      most = rw count (ltb-false 256 n (p24 .0));
-      long = rw count (ltb-false (length file) (8 + 8 * n) (p25 .0));
-    }
+  -- its T, and all its rows
+  pub record Readable (t : ℕ) : Type 0 where
+    pub count : t ≡ countIn file
+    pub long : 8 + 8 * t ≤ length file
+
+  pub readable : (d t : ℕ) → judged file ≡ Read d t → Readable t
+  unfolding frontCases
+  readable d t e =
+      let none = read-none d t e in
+      let count : t ≡ countIn file = sym (ap countOf (none .1)) in
+      record { count = count; long = rw count (ltb-false (length file) (8 + 8 * countIn file) (none .0 .1 .1 .1 .1 .1 .0)) }
+
+  module _ (places : ℕ) where
+    abbrev placeCases : List Case
+    placeCases = (ltb places (countIn file) gives FewPlaces) ∷ []
+
+    -- the list is looked at where the file is read
+    pub then-places : (d t : ℕ) → judged file ≡ Read d t → answered file places ≡ cond (ltb places t) (Refused FewPlaces) (Read d t)
+    unfolding answered decided
+    then-places d t e =
+        let none = read-none d t e in
+        sym (chained Refused (fileCases file) placeCases accepts)
+        ∙ stands Refused (fileCases file) (none .0) (decided Refused placeCases accepts)
+        ∙ (λ i. cond (ltb places (countOf (none .1 i))) (Refused FewPlaces) (none .1 i))
+
+    pub still-refused : (r : Refusal) → judged file ≡ Refused r → answered file places ≡ Refused r
+    unfolding judged answered
+    still-refused r e =
+        sym (chained Refused (fileCases file) placeCases accepts)
+        ∙ refuses Refused (fileCases file) r (refusing Refused accepts (apart (valuesIn file) (countIn file)) same (fileCases file) r e)
+        (decided Refused placeCases accepts)

@@ -9,7 +9,7 @@ use native.Mathlib.Omega.{arith}
 use lib.ListN.{length, getD, drop, length-append}
 use lib.Seq.{getD-at}
 use borrow.Author.Tests.{lt-ltb, le-ltb}
-use Rattle.files.specs.declared.Fault.{Fault}
+use Rattle.refusals.specs.declared.Refusal.{Refusal}
 use Rattle.files.specs.declared.Lesson.the-variants.{Read, Refused}
 use Rattle.files.specs.declared.Row.the-variants.{Cell, NoMore}
 use Rattle.files.specs.declared.Step.{Step}
@@ -77,6 +77,6 @@ module _ (file : List ℕ) (d t : ℕ) (read : judged file ≡ Read d t) where
   then-no-more k = ap (λ (m : ℕ). stepAt file m .row) (stays k) ∙ ap (λ (s : Step). s .row) (past t (omega arith))
 
 -- over a refused file there is no row at all, from any cursor
-pub refused-no-rows : (file : List ℕ) (f : Fault) → judged file ≡ Refused f → (k : ℕ) → stepAt file k ≡ record { row = NoMore; next = k }
+pub refused-no-rows : (file : List ℕ) (r : Refusal) → judged file ≡ Refused r → (k : ℕ) → stepAt file k ≡ record { row = NoMore; next = k }
 unfolding stepAt
-refused-no-rows file f e k = rw e refl
+refused-no-rows file r e k = rw e refl

@@ -1,32 +1,32 @@
 // Refusals 20 to 27: what the file alone decides.
 ghost use mathlib.Core.Path.{_≡_};
-ghost use mathlib.Core.Bool.{not};
 ghost use Prim.Native.Nat.{_≤_, _+_, _*_};
 ghost use lib.ListN.{length};
-ghost use Rattle.sets.specs.Sets.{below};
-ghost use Rattle.files.specs.Rows.{unionTo, lowestTo};
-ghost use Rattle.files.specs.Files.{rowIn};
-ghost use Rattle.files.specs.Reading.{judgedRows, judged};
-use crate::Fault;
+ghost use Rattle.refusals.specs.Cases.{decided};
+ghost use Rattle.files.specs.declared.Lesson.the-variants.{Read, Refused};
+ghost use Rattle.files.specs.Files.{valuesIn, countIn};
+ghost use Rattle.files.specs.FileCases.{rowCases};
+ghost use Rattle.files.specs.Reading.{judged};
 use crate::Lesson;
 use crate::numbers;
+use refusals::Refusal;
 use sets::Found;
 use sheet::Sheet;
 
 // The rows of a file that has them all: refusals 26 and 27.
 fn judge_rows(file: &[u8], d: usize, t: usize) -> Lesson
-    requires { ⌜ 8 + 8 * t ≤ length (now file) ⌝ }
-    ensures { λ r. ⌜ r ≡ judgedRows d t (unionTo (rowIn (now (file .entry))) t) (lowestTo (λ i. not (below d (rowIn (now (file .entry)) i))) t) ⌝ }
+    requires { ⌜ (d ≡ valuesIn (now file)) × (t ≡ countIn (now file)) × (8 + 8 * t ≤ length (now file)) ⌝ }
+    ensures { λ r. ⌜ r ≡ decided Refused (rowCases (now (file .entry))) (Read d t) ⌝ }
 {
     let over = numbers::over(file, d, t);
     match over {
-        Found::At(i) => Lesson::Refused(Fault::BadRow(i)),
+        Found::At(i) => Lesson::Refused(Refusal::RowOver(i)),
         Found::Nothing => {
             if t == 0 {
                 return Lesson::Read(d, t);
             }
             if numbers::union(file, t) == 0 {
-                return Lesson::Refused(Fault::AllUnknown);
+                return Lesson::Refused(Refusal::AllUnknown);
             }
             Lesson::Read(d, t)
         }
@@ -38,27 +38,27 @@ pub fn judge(file: &[u8]) -> Lesson
     ensures { λ r. ⌜ r ≡ judged (now (file .entry)) ⌝ }
 {
     if file.len() < 8 {
-        return Lesson::Refused(Fault::ShortFile);
+        return Lesson::Refused(Refusal::ShortFile);
     }
     if numbers::number(file, 0, 3) != 0x505654 {
-        return Lesson::Refused(Fault::WrongMark);
+        return Lesson::Refused(Refusal::WrongMark);
     }
     if numbers::number(file, 3, 2) != 1 {
-        return Lesson::Refused(Fault::WrongVersion);
+        return Lesson::Refused(Refusal::WrongVersion);
     }
     let d = numbers::number(file, 5, 1) as usize;
     if d == 0 {
-        return Lesson::Refused(Fault::BadValues);
+        return Lesson::Refused(Refusal::BadValues);
     }
     if Sheet::VALUES < d {
-        return Lesson::Refused(Fault::BadValues);
+        return Lesson::Refused(Refusal::BadValues);
     }
     let t = numbers::number(file, 6, 2) as usize;
     if Sheet::ROWS < t {
-        return Lesson::Refused(Fault::ManyRows);
+        return Lesson::Refused(Refusal::ManyRows);
     }
     if file.len() < 8 + 8 * t {
-        return Lesson::Refused(Fault::ShortRows);
+        return Lesson::Refused(Refusal::CutShort);
     }
     judge_rows(file, d, t)
 }

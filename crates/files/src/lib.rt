@@ -8,32 +8,19 @@ ghost use lib.ListN.{length, drop};
 ghost use Rattle.files.specs.Files.{countIn, cellIn, cellsIn};
 ghost use Rattle.files.specs.Reading.{answered, filled};
 ghost use Rattle.files.specs.Turns.{stepAt};
+use refusals::Refusal;
 
 mod numbers; // numbers.rt: numbers in bytes, and the rows of a file
-pub mod faults; // faults.rt: the refusals by number
 mod judge; // judge.rt: refusals 20 to 27
 mod reader; // reader.rt: row by row
 
 pub use reader::Reader;
 pub use reader::take;
 
-// Why a file is refused, in the order of the refusal numbers.
-pub enum Fault {
-    ShortFile,
-    WrongMark,
-    WrongVersion,
-    BadValues,
-    ManyRows,
-    ShortRows,
-    BadRow(usize),
-    AllUnknown,
-    ShortList,
-}
-
 // A file that is read has d values and T rows.
 pub enum Lesson {
     Read(usize, usize),
-    Refused(Fault),
+    Refused(Refusal),
 }
 
 // What a reader hands out: a row, or that there are no more.
@@ -79,18 +66,19 @@ fn fill(file: &[u8], t: usize, rows: &mut [u64])
 
 // A lesson file into a lent list: d and T, or the lowest refusal, with nothing written.
 pub fn read(file: &[u8], rows: &mut [u64]) -> Lesson
-    ensures { λ r. ⌜ (r ≡ answered (now (file .entry)) (length (now (rows .entry)))) × (now (rows .exit) ≡ filled (now (file .entry)) (now (rows .entry)) r) ⌝ }
+    ensures { λ r. ⌜ (r ≡ answered (now (file .entry)) (length (now (rows .entry))))
+        × (now (rows .exit) ≡ filled (now (file .entry)) (now (rows .entry)) r) ⌝ }
 {
     let lesson = judge::judge(file);
     match lesson {
         Lesson::Read(d, t) => {
             if rows.len() < t {
-                return Lesson::Refused(Fault::ShortList);
+                return Lesson::Refused(Refusal::FewPlaces);
             }
             fill(file, t, rows);
             Lesson::Read(d, t)
         }
-        Lesson::Refused(fault) => Lesson::Refused(fault),
+        Lesson::Refused(refusal) => Lesson::Refused(refusal),
     }
 }
 

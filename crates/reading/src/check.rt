@@ -28,9 +28,9 @@ fn heard(lesson: Lesson) -> Said {
             d,
             rows,
         },
-        Lesson::Refused(fault) => Said {
-            refusal: files::faults::number(fault),
-            row: files::faults::row(fault),
+        Lesson::Refused(refusal) => Said {
+            refusal: refusals::number(refusal),
+            row: refusals::row(refusal),
             d: 0,
             rows: 0,
         },

@@ -1,7 +1,7 @@
 // Lesson files, read at once and row by row, compared with the request's numbers.
 mod bytes; // bytes.rt: the request's file, and others made of it
 mod check; // check.rt: one file through `read` and through the reader
-mod refusals; // refusals.rt: every refusal, alone and with a later one
+mod groups; // groups.rt: files that are read, and every refusal
 
 use show::Tally;
 use show::text;
@@ -11,9 +11,9 @@ fn main() {
         b"Lesson files. Each is read into a lent list, and handed out row by row by the reader; the answer, the whole list\n",
     );
     text(b"and every turn of the reader are compared.\n\n");
-    let t1 = refusals::files_that_are_read(Tally::fresh());
-    let t2 = refusals::headers(t1);
-    let t3 = refusals::bodies(t2);
-    let t4 = refusals::short_lists(t3);
+    let t1 = groups::files_that_are_read(Tally::fresh());
+    let t2 = groups::headers(t1);
+    let t3 = groups::bodies(t2);
+    let t4 = groups::short_lists(t3);
     t4.conclude();
 }

@@ -1,8 +1,7 @@
 -- `read` meets its contract. Assumes nothing.
 use mathlib.Core.Path.{refl, sym, _∙_}
 use borrow.Author.Tests.{lt-ltb, le-ltb}
-use Rattle.files.specs.Reading.{answered}
-use Rattle.files.proofs.ReadFiles.{readable}
+use Rattle.files.proofs.ReadFiles.{readable, then-places, still-refused}
 use borrow.Author.Needs.{needs}
 use Rattle.files.proofs.read.Statement.{statement}
 use Rattle.files.proofs.read.Tie as tie
@@ -14,11 +13,14 @@ enum-known-lesson : tie.Need-enum-known-lesson
 enum-known-lesson c = search needs
 
 returns : tie.Need-returns
-unfolding answered
-returns c = (rw (sym (c .before .before .before .before .judge .ensures) ∙ c .before .before .lesson .given .1, lt-ltb _ _ (c .if1 .taken)) refl, refl)
+returns c =
+    let read = sym (c .before .before .before .before .judge .ensures) ∙ c .before .before .lesson .given .1 in
+    (sym (then-places _ _ _ _ read ∙ rw (lt-ltb _ _ (c .if1 .taken)) refl), refl)
 
 fill-requires : tie.Need-fill-requires
-fill-requires c κs = let R = readable _ _ _ (sym (c .before .before .before .before .before .judge .ensures) ∙ c .before .before .before .lesson .given .1) in (R .count, R .long, c .before .if1 .left)
+fill-requires c κs =
+    let R = readable _ _ _ (sym (c .before .before .before .before .before .judge .ensures) ∙ c .before .before .before .lesson .given .1) in
+    (R .count, R .long, c .before .if1 .left)
 
 enum-known-lesson-2 : tie.Need-enum-known-lesson-2
 enum-known-lesson-2 c = search needs
@@ -27,12 +29,15 @@ same-length : tie.Need-same-length
 same-length c = search needs
 
 returns-2 : tie.Need-returns-2
-unfolding answered
-returns-2 c = (rw (sym (c .before .before .before .before .before .before .before .before .judge .ensures) ∙ c .before .before .before .before .before .before .lesson .given .1, le-ltb _ _ (c .before .before .before .before .if1 .left)) refl, c .before .before .fill .ensures)
+returns-2 c =
+    let b = c .before .before .before .before in
+    let read = sym (b .before .before .before .before .judge .ensures) ∙ b .before .before .lesson .given .1 in
+    (sym (then-places _ _ _ _ read ∙ rw (le-ltb _ _ (b .if1 .left)) refl), c .before .before .fill .ensures)
 
 returns-3 : tie.Need-returns-3
-unfolding answered
-returns-3 c = (rw (sym (c .before .before .before .judge .ensures) ∙ c .before .lesson2 .given .1) refl, refl)
+returns-3 c =
+    let refused = sym (c .before .before .before .judge .ensures) ∙ c .before .lesson2 .given .1 in
+    (sym (still-refused _ _ _ refused), refl)
 
 pub read-spec : {M : Type 1} → statement M
 read-spec =

@@ -1,4 +1,4 @@
-// Every refusal, alone and, where one can be, with a later one.
+// Files that are read, and every refusal, alone and, where one can be, with a later one.
 use crate::bytes;
 use crate::check::Said;
 use crate::check::check;

@@ -2,8 +2,8 @@
 use mathlib.Core.Path.{sym}
 use lib.Seq.{length-take-le}
 use borrow.Author.Needs.{needs}
-use Rattle.reading.proofs.refusals.bad_front.Statement.{statement}
-use Rattle.reading.proofs.refusals.bad_front.Tie as tie
+use Rattle.reading.proofs.groups.bad_front.Statement.{statement}
+use Rattle.reading.proofs.groups.bad_front.Tie as tie
 
 bad-requires : tie.Need-bad-requires
 bad-requires c κs = search needs

@@ -1,0 +1,76 @@
+-- When a lesson file is refused, with which number, and what is returned with it (document 01, 'Lesson files'). Assumes nothing.
+use Prim.Native.Nat.{ℕ, _<_}
+use mathlib.Core.Path.{_≡_, refl, ap}
+use mathlib.Core.Logic.{_↔_, _≢_}
+use mathlib.Core.Bool.{true, false, not}
+use mathlib.Core.List.{List, [], _∷_, List·Memᴰ·head, Memᴰ·append-left, Memᴰ·append-right}
+use native.Mathlib.Omega.{arith}
+use lib.Dec.{ltb}
+use borrow.Author.Tests.{not-true, not-false}
+use Rattle.sets.specs.Sets.{below}
+use Rattle.sets.proofs.Bools.{not-both}
+use Rattle.refusals.specs.declared.Refusal.the-variants.{RowOver, FewPlaces}
+use Rattle.refusals.specs.Cases.{_gives_, _names_, place, Given, Rising}
+use Rattle.refusals.proofs.GivenExactlyWhen.{low-never, given-exactly-when, own-refusal, none-given}
+use Rattle.refusals.proofs.RowsReturned.{found-place, no-row}
+use Rattle.files.specs.declared.Lesson.{Lesson}
+use Rattle.files.specs.declared.Lesson.the-variants.{Read, Refused}
+use Rattle.files.specs.Files.{valuesIn, countIn, rowIn}
+use Rattle.files.specs.FileCases.{frontCases, rowOver, rowCases, readCases}
+use Rattle.files.specs.Reading.{numberOf, rowOf, valuesOf, countOf, answered}
+use Rattle.files.proofs.RowLaws.{lowest-says}
+
+-- a refusal's d and T
+none-returned : (l : Lesson) → numberOf l ≢ 0 → (valuesOf l ≡ 0) × (countOf l ≡ 0)
+none-returned (Read d t) ne = absurd (ne refl)
+none-returned (Refused r) ne = (refl, refl)
+
+module _ (file : List ℕ) (places : ℕ) where
+  abbrev answer : Lesson
+  answer = answered file places
+
+  abbrev accepts : Lesson
+  accepts = Read (valuesIn file) (countIn file)
+
+  -- the cases stand in the order of their numbers, from 20 on
+  read-rising : Rising 19 (readCases file places)
+  unfolding frontCases rowCases
+  read-rising =
+      (omega arith, (omega arith, (omega arith, (omega arith, (omega arith, (omega arith, (omega arith, (omega arith, (omega arith, tt)))))))))
+
+  pub read-exactly-when : (n : ℕ) → 0 < n → (numberOf (answered file places) ≡ n) ↔ Given (readCases file places) n
+  unfolding answered
+  read-exactly-when = given-exactly-when Refused numberOf (λ r. refl) accepts refl 19 (readCases file places) read-rising
+
+  -- 'Accepted: d and T are returned'
+  pub accepted-returns : numberOf answer ≡ 0 → (valuesOf answer ≡ valuesIn file) × (countOf answer ≡ countIn file) × (rowOf answer ≡ 0)
+  unfolding answered
+  accepted-returns e =
+      let read = none-given Refused numberOf (λ r. refl) accepts refl 19 (readCases file places) read-rising e .1 in
+      (ap valuesOf read, ap countOf read, ap rowOf read)
+
+  -- 'A refusal returns its number, a row number .. and 0 for d and T'
+  pub refused-returns : numberOf answer ≢ 0 → (valuesOf answer ≡ 0) × (countOf answer ≡ 0)
+  refused-returns = none-returned answer
+
+  -- '26 a row has a value d or above (the lowest such row is returned)'
+  pub row-over-returns : numberOf answer ≡ 26
+      → (rowOf answer < countIn file)
+      × (below (valuesIn file) (rowIn file (rowOf answer)) ≡ false)
+      × ((j : ℕ) → j < rowOf answer → below (valuesIn file) (rowIn file j) ≡ true)
+  unfolding answered rowCases
+  row-over-returns e =
+      let member = Memᴰ·append-left ((ltb places (countIn file) gives FewPlaces) ∷ []) (Memᴰ·append-right (frontCases file) (List·Memᴰ·head refl)) in
+      let own = own-refusal Refused numberOf (λ r. refl) accepts refl 19 (readCases file places) read-rising (rowOver file names RowOver) member e in
+      let lowest = lowest-says (λ i. not (below (valuesIn file) (rowIn file i))) (countIn file) (place (rowOver file)) (found-place (rowOver file) (own .0)) in
+      rw (ap rowOf (own .1)) (
+        lowest .inside,
+        not-true (below (valuesIn file) (rowIn file (place (rowOver file)))) (lowest .passes),
+        λ j h. not-false (below (valuesIn file) (rowIn file j)) (lowest .before j h),
+      )
+
+  -- 'a row number (0 except for 26)'
+  pub no-row-returns : numberOf answer ≢ 26 → rowOf answer ≡ 0
+  unfolding answered
+  no-row-returns = no-row Refused numberOf (λ r. refl) accepts rowOf (λ r. refl) refl (readCases file places)
+      (λ e. not-both (read-exactly-when 2 (omega arith) .0 e .0) (low-never 19 (readCases file places) read-rising 2 (omega arith)))

@@ -1,0 +1,43 @@
+-- The refusals of a lesson file (document 01, 'Lesson files'): 'Refusals, lowest first again'.
+use Prim.Native.Nat.{ℕ, zero, _+_, _*_}
+use mathlib.Core.Bool.{not, _&&_, _||_}
+use mathlib.Core.List.{List, [], _∷_, _++_}
+use lib.Dec.{eqb, leb, ltb}
+use lib.ListN.{length}
+use Rattle.sets.specs.Limits.{mostValues, mostRows}
+use Rattle.sets.specs.declared.Found.{Found}
+use Rattle.sets.specs.Sets.{below}
+use Rattle.sheet.specs.Upto.{allTo}
+use Rattle.refusals.specs.declared.Refusal.the-variants.{ShortFile, WrongMark, WrongVersion, BadValues, ManyRows, CutShort}
+use Rattle.refusals.specs.declared.Refusal.the-variants.{RowOver, AllUnknown, FewPlaces}
+use Rattle.refusals.specs.Cases.{Case, _gives_, _names_}
+use Rattle.files.specs.Rows.{lowestTo}
+use Rattle.files.specs.Files.{markIn, versionIn, valuesIn, countIn, rowIn}
+
+module _ (file : List ℕ) where
+  -- '20 fewer than 8 bytes; 21 wrong mark; 22 version not 1; 23 d is 0 or above 64; 24 T above 256; 25 fewer than 8+8T bytes'
+  unfoldable pub frontCases : List Case
+  frontCases =
+      (ltb (length file) 8 gives ShortFile)
+      ∷ (not (eqb (markIn file) 0x505654) gives WrongMark)
+      ∷ (not (eqb (versionIn file) 1) gives WrongVersion)
+      ∷ ((eqb (valuesIn file) zero || ltb mostValues (valuesIn file)) gives BadValues)
+      ∷ (ltb mostRows (countIn file) gives ManyRows)
+      ∷ (ltb (length file) (8 + 8 * countIn file) gives CutShort)
+      ∷ []
+
+  -- the lowest row that 'has a value d or above'
+  abbrev pub rowOver : Found
+  rowOver = lowestTo (λ i. not (below (valuesIn file) (rowIn file i))) (countIn file)
+
+  -- '26 a row has a value d or above (the lowest such row is returned); 27 T is at least 1 and all rows are zero'
+  unfoldable pub rowCases : List Case
+  rowCases = (rowOver names RowOver) ∷ ((leb 1 (countIn file) && allTo (λ i. eqb (rowIn file i) zero) (countIn file)) gives AllUnknown) ∷ []
+
+  -- what the file alone decides
+  abbrev pub fileCases : List Case
+  fileCases = frontCases ++ rowCases
+
+  -- '28 the lent row list has fewer than T places'
+  abbrev pub readCases : ℕ → List Case
+  readCases places = fileCases ++ ((ltb places (countIn file) gives FewPlaces) ∷ [])
