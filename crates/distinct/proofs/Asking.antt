@@ -1,39 +1,51 @@
--- What `askable` says: the order of its tests, and that it decides what DISTINCT asks of its callers. Assumes nothing.
-use Prim.Native.Nat.{ℕ, zero, suc}
-use mathlib.Core.Path.{_≡_, refl}
-use mathlib.Core.Bool.{Bool, true, false, cond, false≢true}
-use mathlib.Core.List.{List}
-use lib.Dec.{eqb, ltb}
+-- What any caller is answered, case by case, and what is known of a view that may be asked about. Assumes nothing.
+use Prim.Native.Nat.{ℕ, zero, suc, _<_, _≤_}
+use mathlib.Core.Path.{_≡_, refl, ap, _∙_}
+use mathlib.Core.Bool.{Bool, false, cond}
+use mathlib.Core.List.{List, [], _∷_}
+use lib.Dec.{ltb}
 use lib.ListN.{length, replicate, take}
-use borrow.Author.Tests.{ltb-false}
-use Rattle.sets.specs.declared.Found.{Found}
-use Rattle.sets.specs.declared.Found.the-variants.{At, Nothing}
-use Rattle.sets.specs.Tables.{badRow}
+use borrow.Author.Tests.{lt-ltb, le-ltb}
+use Rattle.sets.specs.Limits.{mostInView}
 use Rattle.sets.proofs.BadRows.{bad-row-none}
 use Rattle.minimal.specs.Marking.{NoMarks}
-use Rattle.distinct.specs.Asked.{Askable, none, askable}
+use Rattle.theory.specs.Kept.{kept}
+use Rattle.refusals.specs.declared.Refusal.{Refusal}
+use Rattle.refusals.specs.declared.Refusal.the-variants.{ShortList}
+use Rattle.refusals.specs.Cases.{Case, _gives_, decided}
+use Rattle.refusals.specs.TableCases.{tableCases}
+use Rattle.refusals.proofs.Outcomes.{NoneApplies, Gives, stands-first, refuses-first}
+use Rattle.refusals.proofs.TablesJudged.{right-parts}
+use Rattle.distinct.specs.declared.Answer.{Answer}
+use Rattle.distinct.specs.declared.Answer.the-variants.{Kept, Refused}
+use Rattle.distinct.specs.Asked.{Askable, askCases, answered}
 
--- a test that has to fail for the rest to count
-guard : (b t : Bool) → cond b false t ≡ true → (b ≡ false) × (t ≡ true)
-guard true t e = absurd (false≢true e)
-guard false t e = (refl, e)
+module _ (d : ℕ) (view : List ℕ) where
+  abbrev accepts : Answer
+  accepts = Kept (length (kept d view))
 
-found-none : (f : Found) → none f ≡ true → f ≡ Nothing
-found-none Nothing e = refl
-found-none (At i) e = absurd (false≢true e)
+  abbrev placeCases : ℕ → List Case
+  placeCases places = (ltb places (length view) gives ShortList) ∷ []
 
-pub askable-says : (d : ℕ) (view list : List ℕ) → askable d view (length list) ≡ true → Askable d view list
-unfolding askable
-askable-says d view list e =
-    let a = guard (eqb d zero) (cond (ltb 64 d) false (cond (ltb 320 (length view)) false (cond (ltb (length list) (length view)) false (none (badRow d view))))) e in
-    let b = guard (ltb 64 d) (cond (ltb 320 (length view)) false (cond (ltb (length list) (length view)) false (none (badRow d view)))) (a .1) in
-    let c = guard (ltb 320 (length view)) (cond (ltb (length list) (length view)) false (none (badRow d view))) (b .1) in
-    let f = guard (ltb (length list) (length view)) (none (badRow d view)) (c .1) in
-    record {
-      few = ltb-false 320 (length view) (c .0);
-      room = ltb-false (length list) (length view) (f .0);
-      column = record { column = ltb-false 64 d (b .0); rows-within = bad-row-none d view (found-none (badRow d view) (f .1)) };
-    }
+  pub view-refused : (places : ℕ) (r : Refusal) → Gives (tableCases mostInView d view) r → answered d view places ≡ Refused r
+  unfolding answered askCases
+  view-refused places r given = refuses-first Refused (tableCases mostInView d view) (placeCases places) r given accepts
+
+  module _ (right : NoneApplies (tableCases mostInView d view)) where
+    then-places : (places : ℕ) → answered d view places ≡ cond (ltb places (length view)) (Refused ShortList) accepts
+    unfolding answered askCases decided
+    then-places places = stands-first Refused (tableCases mostInView d view) (placeCases places) right accepts
+
+    pub list-refused : (places : ℕ) → places < length view → answered d view places ≡ Refused ShortList
+    list-refused places h = then-places places ∙ ap (λ (b : Bool). cond b (Refused ShortList) accepts) (lt-ltb places (length view) h)
+
+    pub answers : (places : ℕ) → length view ≤ places → answered d view places ≡ Kept (length (kept d view))
+    answers places h = then-places places ∙ ap (λ (b : Bool). cond b (Refused ShortList) accepts) (le-ltb places (length view) h)
+
+    pub may-ask : (list : List ℕ) → length view ≤ length list → Askable d view list
+    may-ask list room =
+        let parts = right-parts mostInView d view right in
+        record { few = parts .small; room = room; column = record { column = parts .values; rows-within = bad-row-none d view (parts .none-bad) } }
 
 -- ---- no marks at first
 

@@ -8,10 +8,11 @@ use Rattle.distinct.specs.declared.Answer.{Answer}
 use Rattle.distinct.specs.Asked.{answered, listed}
 
 pub ask-determined : (d : ℕ) (view list : List ℕ) (r r′ : Answer) (l l′ : List ℕ)
-    → (r ≡ answered d view list) × (l ≡ listed d view list)
-    → (r′ ≡ answered d view list) × (l′ ≡ listed d view list)
+    → (r ≡ answered d view (length list)) × (l ≡ listed d view list r)
+    → (r′ ≡ answered d view (length list)) × (l′ ≡ listed d view list r′)
     → (r ≡ r′) × (l ≡ l′)
-ask-determined d view list r r′ l l′ p q = (p .0 ∙ sym (q .0), p .1 ∙ sym (q .1))
+ask-determined d view list r r′ l l′ p q =
+    let same : r ≡ r′ = p .0 ∙ sym (q .0) in (same, p .1 ∙ ap (listed d view list) same ∙ sym (q .1))
 
 pub distinct-determined : (d : ℕ) (view list : List ℕ) (n n′ : ℕ) (l l′ : List ℕ)
     → (n ≡ length (kept d view)) × (l ≡ kept d view ++ drop n list)

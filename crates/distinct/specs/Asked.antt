@@ -1,35 +1,45 @@
--- What DISTINCT asks of its callers, and what any caller is answered.
+-- What DISTINCT asks of its callers, and what is answered to any caller, about a view that belongs to no desk.
 use Prim.Native.Nat.{ℕ, zero, _≤_}
-use mathlib.Core.Bool.{Bool, true, false, cond}
-use mathlib.Core.List.{List, _++_}
-use lib.Dec.{eqb, ltb}
+use mathlib.Core.List.{List, [], _∷_, _++_}
+use lib.Dec.{ltb}
 use lib.ListN.{length, drop}
-use Rattle.sets.specs.declared.Found.{Found}
-use Rattle.sets.specs.declared.Found.the-variants.{At, Nothing}
-use Rattle.sets.specs.Tables.{badRow}
+use Rattle.sets.specs.Limits.{mostInView}
+use Rattle.refusals.specs.declared.Refusal.the-variants.{ShortList}
+use Rattle.refusals.specs.Refusals.{number, row}
+use Rattle.refusals.specs.Cases.{Case, _gives_, decided}
+use Rattle.refusals.specs.TableCases.{tableCases}
 use Rattle.theory.specs.Kept.{kept}
 use Rattle.distinct.specs.declared.Answer.{Answer}
 use Rattle.distinct.specs.declared.Answer.the-variants.{Kept, Refused}
 use Rattle.distinct.specs.Steps.{InColumn}
 
--- at most 320 rows of a column with d values, and a place for each in the list
+-- the rows of a column with d values, no more than a view may have, and a place for each in the list
 pub record Askable (d : ℕ) (view list : List ℕ) : Type 0 where
-  pub few : length view ≤ 320
+  pub few : length view ≤ mostInView
   pub room : length view ≤ length list
   pub column : InColumn d view
 
--- nothing was found
-abbrev pub none : Found → Bool
-none Nothing = true
-none (At i) = false
+-- ---- an answer by the request's numbers
 
--- d is 1 to 64, the view has at most 320 rows, each within d, and there are as many places
-unfoldable pub askable : ℕ → List ℕ → ℕ → Bool
-askable d view places =
-    cond (eqb d zero) false (cond (ltb 64 d) false (cond (ltb 320 (length view)) false (cond (ltb places (length view)) false (none (badRow d view)))))
+abbrev pub numberOf : Answer → ℕ
+numberOf (Kept n) = zero
+numberOf (Refused r) = number r
 
-unfoldable pub answered : ℕ → List ℕ → List ℕ → Answer
-answered d view list = cond (askable d view (length list)) (Kept (length (kept d view))) Refused
+abbrev pub rowOf : Answer → ℕ
+rowOf (Kept n) = zero
+rowOf (Refused r) = row r
 
-unfoldable pub listed : ℕ → List ℕ → List ℕ → List ℕ
-listed d view list = cond (askable d view (length list)) (kept d view ++ drop (length (kept d view)) list) list
+-- ---- what is answered
+
+-- the view is judged as a table is, by 1 and 2, and then 11: 'the lent list has fewer places than the view has rows'
+unfoldable pub askCases : ℕ → List ℕ → ℕ → List Case
+askCases d view places = tableCases mostInView d view ++ ((ltb places (length view) gives ShortList) ∷ [])
+
+-- where there are so many places
+unfoldable pub answered : ℕ → List ℕ → ℕ → Answer
+answered d view places = decided Refused (askCases d view places) (Kept (length (kept d view)))
+
+-- 'the first n places of the lent list get the kept positions, later places keep what they had'; a refusal 'writes to no lent memory'
+abbrev pub listed : ℕ → List ℕ → List ℕ → Answer → List ℕ
+listed d view list (Kept n) = kept d view ++ drop n list
+listed d view list (Refused r) = list

@@ -4,6 +4,7 @@ use mathlib.Core.Path.{_≡_}
 use mathlib.Core.Bool.{Bool, true, false}
 use mathlib.Core.List.{List, [], _∷_}
 use lib.ListN.{length, take}
+use Rattle.sets.specs.Limits.{mostValues}
 use Rattle.sets.specs.Sets.{within}
 use Rattle.theory.specs.Kept.{rowsAt}
 use Rattle.theory.specs.Pairings.{at}
@@ -13,13 +14,13 @@ use Rattle.pairing.specs.Seats.{Below, Sitting}
 
 -- the rows are those of a column with d values
 pub record InColumn (d : ℕ) (rows : List ℕ) : Type 0 where
-  pub column : d ≤ 64
+  pub column : d ≤ mostValues
   pub rows-within : (i : ℕ) → i < length rows → within d (at rows i) ≡ true
 
--- places for each row of the view, and for 64 seats
+-- places for each row of the view, and for a seat of each value
 pub record Places (view places : List ℕ) : Type 0 where
   pub rows : length view ≤ length places
-  pub seats : 64 ≤ length places
+  pub seats : mostValues ≤ length places
 
 -- the marks before place n, and none from there on
 unfoldable pub before : ℕ → List Bool → List Bool

@@ -4,9 +4,11 @@ ghost use mathlib.Core.List.{_++_};
 ghost use lib.ListN.{length, drop};
 ghost use Rattle.theory.specs.Kept.{kept};
 ghost use Rattle.minimal.specs.Marking.{NoMarks};
-ghost use Rattle.distinct.specs.Asked.{Askable, askable, answered, listed};
+ghost use Rattle.distinct.specs.Asked.{Askable, answered, listed};
 ghost use Rattle.distinct.specs.Steps.{Places};
-use sets::Found;
+use refusals::Refusal;
+use refusals::tables;
+use refusals::tables::Judged;
 use sheet::Sheet;
 
 mod steps; // steps.rt: the two steps, on marks
@@ -48,41 +50,25 @@ pub fn distinct(d: usize, view: &[u64], list: &mut [usize]) -> usize
     distinct_on(d, view, &mut keep[..n], &mut rows, &mut mates, list)
 }
 
-// What DISTINCT asks of its callers, decided.
-fn may_ask(d: usize, view: &[u64], places: usize) -> bool
-    ensures { λ r. ⌜ r ≡ askable d (now (view .entry)) places ⌝ }
-{
-    if d == 0 {
-        return false;
-    }
-    if Sheet::VALUES < d {
-        return false;
-    }
-    if Sheet::VIEW < view.len() {
-        return false;
-    }
-    if places < view.len() {
-        return false;
-    }
-    let bad = sets::bad_row(view, d);
-    match bad {
-        Found::Nothing => true,
-        Found::At(_) => false,
-    }
-}
-
 // How many rows are kept, or a refusal.
 pub enum Answer {
     Kept(usize),
-    Refused,
+    Refused(Refusal),
 }
 
-// DISTINCT for any caller: refused, with nothing written, where the view cannot be asked about.
+// DISTINCT for any caller: a view that cannot be asked about is refused, with nothing written.
 pub fn ask(d: usize, view: &[u64], list: &mut [usize]) -> Answer
-    ensures { λ r. ⌜ (r ≡ answered d (now (view .entry)) (now (list .entry))) × (now (list .exit) ≡ listed d (now (view .entry)) (now (list .entry))) ⌝ }
+    ensures { λ r. ⌜ (r ≡ answered d (now (view .entry)) (length (now (list .entry))))
+        × (now (list .exit) ≡ listed d (now (view .entry)) (now (list .entry)) r) ⌝ }
 {
-    if may_ask(d, view, list.len()) {
-        return Answer::Kept(distinct(d, view, list));
+    let judged = tables::judge(view, d, Sheet::VIEW);
+    match judged {
+        Judged::Right => {
+            if list.len() < view.len() {
+                return Answer::Refused(Refusal::ShortList);
+            }
+            Answer::Kept(distinct(d, view, list))
+        }
+        Judged::Refused(refusal) => Answer::Refused(refusal),
     }
-    Answer::Refused
 }

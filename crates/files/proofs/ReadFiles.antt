@@ -12,7 +12,7 @@ use borrow.Author.Tests.{ltb-false}
 use Rattle.refusals.specs.declared.Refusal.{Refusal}
 use Rattle.refusals.specs.declared.Refusal.the-variants.{FewPlaces}
 use Rattle.refusals.specs.Cases.{Case, _gives_, decided}
-use Rattle.refusals.proofs.Outcomes.{NoneApplies, outcome, chained, stands, refuses, refusing}
+use Rattle.refusals.proofs.Outcomes.{NoneApplies, outcome, stands, refuses, stands-first, refuses-first, refusing}
 use Rattle.files.specs.declared.Lesson.{Lesson}
 use Rattle.files.specs.declared.Lesson.the-variants.{Read, Refused}
 use Rattle.files.specs.Files.{valuesIn, countIn}
@@ -59,13 +59,11 @@ module _ (file : List ℕ) where
     unfolding answered decided
     then-places d t e =
         let none = read-none d t e in
-        sym (chained Refused (fileCases file) placeCases accepts)
-        ∙ stands Refused (fileCases file) (none .0) (decided Refused placeCases accepts)
+        stands-first Refused (fileCases file) placeCases (none .0) accepts
         ∙ (λ i. cond (ltb places (countOf (none .1 i))) (Refused FewPlaces) (none .1 i))
 
     pub still-refused : (r : Refusal) → judged file ≡ Refused r → answered file places ≡ Refused r
     unfolding judged answered
     still-refused r e =
-        sym (chained Refused (fileCases file) placeCases accepts)
-        ∙ refuses Refused (fileCases file) r (refusing Refused accepts (apart (valuesIn file) (countIn file)) same (fileCases file) r e)
-        (decided Refused placeCases accepts)
+        let given = refusing Refused accepts (apart (valuesIn file) (countIn file)) same (fileCases file) r e in
+        refuses-first Refused (fileCases file) placeCases r given accepts

@@ -13,7 +13,7 @@ pub fn kept(d: usize, view: &[u64]) -> u64 {
     let mut list = [0usize; 8];
     match distinct::ask(d, view, &mut list) {
         Answer::Kept(n) => families::marked(&list, n),
-        Answer::Refused => 0,
+        Answer::Refused(_) => 0,
     }
 }
 

@@ -9,7 +9,7 @@ use show::text;
 fn answered(answer: Answer) -> usize {
     match answer {
         Answer::Kept(n) => n,
-        Answer::Refused => 0,
+        Answer::Refused(_) => 0,
     }
 }
 

@@ -19,7 +19,7 @@ const SHOWN: usize = 5;
 fn answered(answer: Answer) -> usize {
     match answer {
         Answer::Kept(n) => n,
-        Answer::Refused => LENT,
+        Answer::Refused(_) => LENT,
     }
 }
 
