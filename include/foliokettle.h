@@ -49,7 +49,8 @@ foliokettle_handed foliokettle_call(const uint64_t *table, size_t rows, size_t d
 foliokettle_told foliokettle_alter(foliokettle_sheet *sheet, const uint64_t *table, size_t rows, size_t d, size_t desk,
                                    uint64_t kind, uint64_t n, size_t *list, size_t places);
 
-/* DISTINCT over a view that belongs to no desk; SIZE_MAX where it is refused (README). */
-size_t foliokettle_distinct(size_t d, const uint64_t *view, size_t rows, size_t *list, size_t places);
+/* DISTINCT over a view that belongs to no desk: the kept positions go to the front of the list, and `first` is their
+   number. The view is judged as a table of at most 320 rows, by refusals 1 and 2 (`first` is then the row), and by 11. */
+foliokettle_told foliokettle_distinct(size_t d, const uint64_t *view, size_t rows, size_t *list, size_t places);
 
 #endif

@@ -8,7 +8,7 @@ use Rattle.sheet.specs.declared.Sheet.{Sheet}
 use Rattle.store.specs.Calls.{begun}
 use Rattle.host.specs.declared.spoken.Told.{Told}
 use Rattle.host.specs.declared.spoken.Handed.{Handed}
-use Rattle.host.specs.Numbers.{keptNumber}
+use Rattle.host.specs.Numbers.{toldKept}
 use Rattle.host.specs.Spoken.{askedBy, handed, handedBy, listOf}
 
 pub host-begin-determined : (d : ℕ) (table : List ℕ) (desks : ℕ) (r r′ : Handed) → r ≡ handed (begun d table desks) → r′ ≡ handed (begun d table desks) → r ≡ r′
@@ -30,6 +30,8 @@ module _ (d : ℕ) (table : List ℕ) (s : Sheet) (k kind n : ℕ) (old : List �
   pub host-alter-determined : (r r′ : Told) (t t′ : Sheet) (l l′ : List ℕ) → Altered r t l → Altered r′ t′ l′ → (r ≡ r′) × (t ≡ t′) × (l ≡ l′)
   host-alter-determined r r′ t t′ l l′ p q = (p .0 ∙ sym (q .0), p .1 ∙ sym (q .1), p .2 ∙ sym (q .2))
 
-pub host-distinct-determined : (d : ℕ) (view list : List ℕ) (r r′ : ℕ) (l l′ : List ℕ)
-    → (r ≡ keptNumber (answered d view list)) × (l ≡ listed d view list) → (r′ ≡ keptNumber (answered d view list)) × (l′ ≡ listed d view list) → (r ≡ r′) × (l ≡ l′)
+pub host-distinct-determined : (d : ℕ) (view list : List ℕ) (r r′ : Told) (l l′ : List ℕ)
+    → (r ≡ toldKept (answered d view (length list))) × (l ≡ listed d view list (answered d view (length list)))
+    → (r′ ≡ toldKept (answered d view (length list))) × (l′ ≡ listed d view list (answered d view (length list)))
+    → (r ≡ r′) × (l ≡ l′)
 host-distinct-determined d view list r r′ l l′ p q = (p .0 ∙ sym (q .0), p .1 ∙ sym (q .1))

@@ -1,9 +1,11 @@
--- The numbers by which hosts in other languages are answered.
-use Prim.Native.Nat.{ℕ}
+-- The numbers by which hosts in other languages are answered about a view that belongs to no desk.
+use Prim.Native.Nat.{zero}
+use Rattle.refusals.specs.Refusals.{number, row}
 use Rattle.distinct.specs.declared.Answer.{Answer}
 use Rattle.distinct.specs.declared.Answer.the-variants.{Kept, Refused}
+use Rattle.host.specs.declared.spoken.Told.{Told}
 
--- how many positions are kept, and the largest number of 64 bits for a refusal
-abbrev pub keptNumber : Answer → ℕ
-keptNumber (Kept n) = n
-keptNumber Refused = 18446744073709551615
+-- how many positions are kept; or 'its number and a row number'
+abbrev pub toldKept : Answer → Told
+toldKept (Kept n) = record { refusal = zero; first = n; second = zero }
+toldKept (Refused r) = record { refusal = number r; first = row r; second = zero }

@@ -1,7 +1,7 @@
 // The store for hosts in other languages: plain numbers and slices, and nothing that a host has to promise.
 ghost use mathlib.Core.Path.{_≡_};
 ghost use Rattle.distinct.specs.Asked.{answered, listed};
-ghost use Rattle.host.specs.Numbers.{keptNumber};
+ghost use Rattle.host.specs.Numbers.{toldKept};
 ghost use lib.ListN.{length};
 ghost use Rattle.store.specs.Calls.{begun};
 ghost use Rattle.host.specs.Spoken.{askedBy, handedBy, handed, listOf};
@@ -13,15 +13,24 @@ use spoken::Told;
 
 mod spoken; // spoken.rt: calls and answers as plain numbers
 
-// DISTINCT over a view. Answers how many positions stand at the front of the list, or the largest number where the view is refused.
+// DISTINCT over a view that belongs to no desk. Answers how many positions stand at the front of the list, or a refusal and its row.
 #[no_mangle]
-pub extern "C" fn foliokettle_distinct(d: usize, view: &[u64], list: &mut [usize]) -> usize
-    ensures { λ r. ⌜ (r ≡ keptNumber (answered d (now (view .entry)) (now (list .entry)))) × (now (list .exit) ≡ listed d (now (view .entry)) (now (list .entry))) ⌝ }
+pub extern "C" fn foliokettle_distinct(d: usize, view: &[u64], list: &mut [usize]) -> Told
+    ensures { λ r. ⌜ (r ≡ toldKept (answered d (now (view .entry)) (length (now (list .entry)))))
+        × (now (list .exit) ≡ listed d (now (view .entry)) (now (list .entry)) (answered d (now (view .entry)) (length (now (list .entry))))) ⌝ }
 {
     let answer = distinct::ask(d, view, list);
     match answer {
-        Answer::Kept(n) => n,
-        Answer::Refused => 0xffff_ffff_ffff_ffff,
+        Answer::Kept(n) => Told {
+            refusal: 0,
+            first: n as u64,
+            second: 0,
+        },
+        Answer::Refused(refusal) => Told {
+            refusal: refusals::number(refusal) as u64,
+            first: refusals::row(refusal) as u64,
+            second: 0,
+        },
     }
 }
 
