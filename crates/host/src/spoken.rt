@@ -80,8 +80,8 @@ pub fn tell(answer: Answer) -> Told
             second: 0,
         },
         Answer::Refused(refusal) => Told {
-            refusal: store::refusals::number(refusal) as u64,
-            first: store::refusals::row(refusal) as u64,
+            refusal: refusals::number(refusal) as u64,
+            first: refusals::row(refusal) as u64,
             second: 0,
         },
     }
