@@ -1,2 +1,3 @@
 -- `Determined`: the contracts leave no choice.
 pub mod Determined
+pub mod PlayedTells

@@ -29,10 +29,14 @@ toldOf a = record { refusal = numberOf a; first = at (valuesOf a) 0; second = at
 abbrev pub handed : Reply → Handed
 handed r = record { told = toldOf (r .answer); sheet = r .sheet }
 
--- what the host is handed back; what is no call is refused by the largest number of 64 bits
+-- what is told where there is no call: the largest number of 64 bits, which is no refusal of the request
+abbrev pub noCall : Told
+noCall = record { refusal = 18446744073709551615; first = zero; second = zero }
+
+-- what the host is handed back
 abbrev pub handedBy : Asked → ℕ → List ℕ → Sheet → ℕ → ℕ → Handed
 handedBy (One c) d table s k places = handed (replied d table s k c places)
-handedBy Nothing d table s k places = record { told = record { refusal = 18446744073709551615; first = zero; second = zero }; sheet = s }
+handedBy Nothing d table s k places = record { told = noCall; sheet = s }
 
 -- and its list
 abbrev pub listOf : Asked → ℕ → List ℕ → Sheet → ℕ → List ℕ → List ℕ

@@ -83,8 +83,14 @@ module _ (d : ℕ) (table : List ℕ) (desks : ℕ) where
   saying-on [] = refl
   saying-on (t ∷ past) = λ i. tellsOn (after-on past i) t ∷ saying-on past i
 
-  -- any run that is admitted tells each turn what `classStore` tells it
+  -- so a run through any door that tells and leaves the same tells each turn what `classStore` tells it
+  pub door-tells : {door : Sheet → Turn → Told → Sheet → Type 0}
+      → ((s : Sheet) (t : Turn) (o : Told) (s′ : Sheet) → door s t o s′ → (o ≡ tellsOn s t) × (s′ ≡ leavesOn s t))
+      → {past : List Turn} {said : List Told} {s : Sheet} → Run Begun door past said s
+      → (said ≡ tellings (classStore d table desks) past) × (s ≡ sheetOn d table desks past)
+  door-tells same {past} run =
+      let p = run-says (begunSheet d table desks) tellsOn leavesOn begins same run in (p .0 ∙ saying-on past, p .1 ∙ after-on past)
+
   pub played-tells : {past : List Turn} {said : List Told} {s : Sheet} → Played past said s
       → (said ≡ tellings (classStore d table desks) past) × (s ≡ sheetOn d table desks past)
-  played-tells {past} run =
-      let p = run-says (begunSheet d table desks) tellsOn leavesOn begins turns run in (p .0 ∙ saying-on past, p .1 ∙ after-on past)
+  played-tells run = door-tells turns run
