@@ -6,7 +6,7 @@ use Rattle.refusals.specs.Refusals.{number, row}
 use Rattle.store.specs.declared.Answer.{Answer}
 use Rattle.store.specs.declared.Answer.the-variants.{Done, Seen, Counted, Listed, Refused}
 
--- the number of an answer, 0 where the call is accepted, and the values that it returns
+-- the number of an answer, 0 where the call is accepted
 abbrev pub numberOf : Answer → ℕ
 numberOf Done = zero
 numberOf (Seen set) = zero
@@ -14,6 +14,15 @@ numberOf (Counted rows held) = zero
 numberOf (Listed n) = zero
 numberOf (Refused r) = number r
 
+-- 'A refusal returns its number and a row number'
+abbrev pub rowOf : Answer → ℕ
+rowOf Done = zero
+rowOf (Seen set) = zero
+rowOf (Counted rows held) = zero
+rowOf (Listed n) = zero
+rowOf (Refused r) = row r
+
+-- the values that an answer returns: 'the set there', 'rows in the view, own rows held', 'the count n', or the row number of a refusal
 abbrev pub valuesOf : Answer → List ℕ
 valuesOf Done = []
 valuesOf (Seen set) = set ∷ []

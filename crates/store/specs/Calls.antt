@@ -4,8 +4,8 @@ use mathlib.Core.Bool.{Bool, true, false, cond, not, _&&_, _||_}
 use mathlib.Core.List.{List, [], _∷_, _++_}
 use lib.Dec.{eqb, leb, ltb}
 use lib.ListN.{length}
-use Rattle.sets.specs.Limits.{mostRows}
-use Rattle.sets.specs.Limits.{mostRows}
+use Rattle.sets.specs.Limits.{mostRows, mostDesks, mostPlaces}
+use Rattle.sets.specs.Limits.{mostRows, mostDesks, mostPlaces}
 use Rattle.refusals.specs.TableCases.{tableCases}
 use Rattle.sheet.specs.declared.Sheet.{Sheet}
 use Rattle.sheet.specs.Sheets.{own, hides, owed, sound}
@@ -19,13 +19,16 @@ use Rattle.store.specs.declared.Answer.the-variants.{Done, Refused}
 use Rattle.store.specs.declared.Reply.{Reply}
 use Rattle.refusals.specs.Cases.{Case, _gives_, decided}
 use Rattle.store.specs.Answers.{accepted}
-use Rattle.store.specs.Desks.{serve, Told, telling}
+use Rattle.store.specs.Desks.{callCases, serve, Told, telling}
 
 -- ---- begin
 
 -- 'Begin is refused by 1, 2 and 13 only'
+abbrev pub beginCases : ℕ → List ℕ → ℕ → List Case
+beginCases d table desks = tableCases mostRows d table ++ (((eqb desks zero || ltb mostDesks desks) gives BadDesks) ∷ [])
+
 unfoldable pub begunAnswer : ℕ → List ℕ → ℕ → Answer
-begunAnswer d table desks = decided Refused (tableCases mostRows d table ++ (((eqb desks zero || ltb 32 desks) gives BadDesks) ∷ [])) Done
+begunAnswer d table desks = decided Refused (beginCases d table desks) Done
 
 -- 'a fresh sheet for this d and T'; refused, 'it then returns a sheet of zeros, which isn't sound'
 unfoldable pub begunSheet : ℕ → List ℕ → ℕ → Sheet
@@ -38,7 +41,7 @@ begun d table desks = record { answer = begunAnswer d table desks; sheet = begun
 
 -- 'used plus owed is 512'
 unfoldable pub crowded : Sheet → Bool
-crowded s = eqb (s .used + owed s) 512
+crowded s = eqb (s .used + owed s) mostPlaces
 
 -- refusals 4 and 5: of the table and desk of a call, and the d, T and number of desks of the sheet
 abbrev pub deskCases : ℕ → ℕ → ℕ → ℕ → ℕ → ℕ → List Case
@@ -52,6 +55,11 @@ sheetCases d table s k = (not (sound s) gives Unsound) ∷ deskCases d (length t
 unfoldable pub answered : ℕ → List ℕ → Sheet → ℕ → Call → ℕ → Answer
 answered d table s k c places =
     decided Refused (tableCases mostRows d table ++ sheetCases d table s k) (serve d table (crowded s) places (hides (s .marks) k) (own s k) c)
+
+-- all cases of a desk's call, in the order of their numbers
+abbrev pub allCases : ℕ → List ℕ → Sheet → ℕ → Call → ℕ → List Case
+allCases d table s k c places =
+    tableCases mostRows d table ++ (sheetCases d table s k ++ callCases d table (crowded s) places (hides (s .marks) k) (own s k) c)
 
 -- what an accepted call makes of the sheet; 'Nothing else on the sheet changes'
 unfoldable pub changed : Sheet → ℕ → Call → Sheet

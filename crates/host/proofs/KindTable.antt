@@ -1,0 +1,48 @@
+-- What each kind of call is, and what a host is told of each answer, as the header prints it. Assumes nothing.
+use Prim.Native.Nat.{ℕ, _<_}
+use mathlib.Core.Path.{_≡_, refl}
+use mathlib.Core.List.{List, [], _∷_, map}
+use native.Mathlib.Omega.{arith}
+use lib.Dec.{eqb}
+use borrow.Author.Tests.{ne-eqb}
+use Rattle.refusals.specs.declared.Refusal.the-variants.{BadRow, NoRoom}
+use Rattle.store.specs.declared.Target.the-variants.{Table, Own}
+use Rattle.store.specs.declared.Call.the-variants.{Delete, Insert, Reset, Look, Count, Distinct}
+use Rattle.store.specs.declared.Answer.the-variants.{Done, Seen, Counted, Listed, Refused}
+use Rattle.distinct.specs.declared.Answer.the-variants as view
+use Rattle.host.specs.declared.spoken.Told.{Told}
+use Rattle.host.specs.declared.spoken.Asked.{Asked}
+use Rattle.host.specs.declared.spoken.Asked.the-variants.{One, Nothing}
+use Rattle.host.specs.Numbers.{toldKept}
+use Rattle.host.specs.Spoken.{askedBy, toldOf}
+
+pub kinds-printed : (n : ℕ) → map (λ (kind : ℕ). askedBy kind n) (0 ∷ 1 ∷ 2 ∷ 3 ∷ 4 ∷ 5 ∷ 6 ∷ [])
+    ≡ One (Delete (Table n)) ∷ One (Delete (Own n)) ∷ One (Insert n) ∷ One Reset ∷ One (Look n) ∷ One Count ∷ One Distinct ∷ []
+unfolding askedBy
+kinds-printed n = refl
+
+-- no other kind is a call
+pub other-kinds : (kind n : ℕ) → 6 < kind → askedBy kind n ≡ Nothing
+unfolding askedBy
+other-kinds kind n h =
+    rw (
+      ne-eqb kind 0 (λ e. absurd (omega arith)),
+      ne-eqb kind 1 (λ e. absurd (omega arith)),
+      ne-eqb kind 2 (λ e. absurd (omega arith)),
+      ne-eqb kind 3 (λ e. absurd (omega arith)),
+      ne-eqb kind 4 (λ e. absurd (omega arith)),
+      ne-eqb kind 5 (λ e. absurd (omega arith)),
+      ne-eqb kind 6 (λ e. absurd (omega arith)),
+    ) refl
+
+-- a number, and then the values of the answer
+abbrev tells : ℕ → ℕ → ℕ → Told
+tells refusal first second = record { refusal = refusal; first = first; second = second }
+
+pub told-printed : (set rows own n i : ℕ) → map toldOf (Done ∷ Seen set ∷ Counted rows own ∷ Listed n ∷ Refused (BadRow i) ∷ Refused NoRoom ∷ [])
+    ≡ tells 0 0 0 ∷ tells 0 set 0 ∷ tells 0 rows own ∷ tells 0 n 0 ∷ tells 2 i 0 ∷ tells 10 0 0 ∷ []
+told-printed set rows own n i = refl
+
+-- of a view that belongs to no desk
+pub kept-printed : (n i : ℕ) → map toldKept (view.Kept n ∷ view.Refused (BadRow i) ∷ []) ≡ tells 0 n 0 ∷ tells 2 i 0 ∷ []
+kept-printed n i = refl
