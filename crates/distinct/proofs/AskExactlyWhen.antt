@@ -3,36 +3,28 @@ use Prim.Native.Nat.{ℕ, _<_}
 use mathlib.Core.Path.{_≡_, refl, ap}
 use mathlib.Core.Logic.{_↔_, _≢_}
 use mathlib.Core.Bool.{false}
-use mathlib.Core.List.{List, [], _∷_}
+use mathlib.Core.List.{List}
 use native.Mathlib.Omega.{arith}
-use lib.Dec.{ltb}
 use lib.ListN.{length}
 use Rattle.sets.specs.Limits.{mostInView}
 use Rattle.sets.proofs.Bools.{not-both}
 use Rattle.sets.proofs.BadRows.{LowestBad}
 use Rattle.theory.specs.Kept.{kept}
-use Rattle.refusals.specs.declared.Refusal.the-variants.{ShortList}
-use Rattle.refusals.specs.Cases.{Case, _gives_, applies, Given, Rising}
+use Rattle.refusals.specs.Cases.{applies, Given, Rising}
 use Rattle.refusals.specs.TableCases.{tableCases}
 use Rattle.refusals.proofs.GivenExactlyWhen.{given-exactly-when}
 use Rattle.refusals.proofs.RowsReturned.{table-rising, lowest-bad-row, no-row}
 use Rattle.distinct.specs.declared.Answer.{Answer}
 use Rattle.distinct.specs.declared.Answer.the-variants.{Kept, Refused}
-use Rattle.distinct.specs.Asked.{numberOf, rowOf, askCases, answered}
+use Rattle.distinct.specs.Asked.{numberOf, rowOf, placeCases, askCases, answered}
 
 module _ (d : ℕ) (view : List ℕ) (places : ℕ) where
-  abbrev answer : Answer
-  answer = answered d view places
-
   abbrev accepts : Answer
   accepts = Kept (length (kept d view))
 
-  abbrev placeCases : List Case
-  placeCases = (ltb places (length view) gives ShortList) ∷ []
-
   ask-rising : Rising 0 (askCases d view places)
   unfolding askCases
-  ask-rising = table-rising mostInView d view placeCases (omega arith, tt)
+  ask-rising = table-rising mostInView d view (placeCases view places) (omega arith, tt)
 
   pub ask-exactly-when : (n : ℕ) → 0 < n → (numberOf (answered d view places) ≡ n) ↔ Given (askCases d view places) n
   unfolding answered
@@ -42,7 +34,7 @@ module _ (d : ℕ) (view : List ℕ) (places : ℕ) where
   pub ask-bad-row : numberOf (answered d view places) ≡ 2 → LowestBad d view (rowOf (answered d view places))
   unfolding answered askCases
   ask-bad-row e =
-      let given = lowest-bad-row Refused numberOf (λ r. refl) accepts mostInView d view placeCases (omega arith, tt) refl e in
+      let given = lowest-bad-row Refused numberOf (λ r. refl) accepts mostInView d view (placeCases view places) (omega arith, tt) refl e in
       rw (ap rowOf (given .1)) (given .2)
 
   -- and 0 with any other number

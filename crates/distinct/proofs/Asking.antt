@@ -2,7 +2,7 @@
 use Prim.Native.Nat.{ℕ, zero, suc, _<_, _≤_}
 use mathlib.Core.Path.{_≡_, refl, ap, _∙_}
 use mathlib.Core.Bool.{Bool, false, cond}
-use mathlib.Core.List.{List, [], _∷_}
+use mathlib.Core.List.{List}
 use lib.Dec.{ltb}
 use lib.ListN.{length, replicate, take}
 use borrow.Author.Tests.{lt-ltb, le-ltb}
@@ -12,29 +12,26 @@ use Rattle.minimal.specs.Marking.{NoMarks}
 use Rattle.theory.specs.Kept.{kept}
 use Rattle.refusals.specs.declared.Refusal.{Refusal}
 use Rattle.refusals.specs.declared.Refusal.the-variants.{ShortList}
-use Rattle.refusals.specs.Cases.{Case, _gives_, decided}
+use Rattle.refusals.specs.Cases.{decided}
 use Rattle.refusals.specs.TableCases.{tableCases}
 use Rattle.refusals.proofs.Outcomes.{NoneApplies, Gives, stands-first, refuses-first}
 use Rattle.refusals.proofs.TablesJudged.{right-parts}
 use Rattle.distinct.specs.declared.Answer.{Answer}
 use Rattle.distinct.specs.declared.Answer.the-variants.{Kept, Refused}
-use Rattle.distinct.specs.Asked.{Askable, askCases, answered}
+use Rattle.distinct.specs.Asked.{Askable, placeCases, askCases, answered}
 
 module _ (d : ℕ) (view : List ℕ) where
   abbrev accepts : Answer
   accepts = Kept (length (kept d view))
 
-  abbrev placeCases : ℕ → List Case
-  placeCases places = (ltb places (length view) gives ShortList) ∷ []
-
   pub view-refused : (places : ℕ) (r : Refusal) → Gives (tableCases mostInView d view) r → answered d view places ≡ Refused r
   unfolding answered askCases
-  view-refused places r given = refuses-first Refused (tableCases mostInView d view) (placeCases places) r given accepts
+  view-refused places r given = refuses-first Refused (tableCases mostInView d view) (placeCases view places) r given accepts
 
   module _ (right : NoneApplies (tableCases mostInView d view)) where
     then-places : (places : ℕ) → answered d view places ≡ cond (ltb places (length view)) (Refused ShortList) accepts
     unfolding answered askCases decided
-    then-places places = stands-first Refused (tableCases mostInView d view) (placeCases places) right accepts
+    then-places places = stands-first Refused (tableCases mostInView d view) (placeCases view places) right accepts
 
     pub list-refused : (places : ℕ) → places < length view → answered d view places ≡ Refused ShortList
     list-refused places h = then-places places ∙ ap (λ (b : Bool). cond b (Refused ShortList) accepts) (lt-ltb places (length view) h)

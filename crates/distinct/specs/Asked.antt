@@ -31,9 +31,13 @@ rowOf (Refused r) = row r
 
 -- ---- what is answered
 
--- the view is judged as a table is, by 1 and 2, and then 11: 'the lent list has fewer places than the view has rows'
+-- 11: 'the lent list has fewer places than the view has rows'
+abbrev pub placeCases : List ℕ → ℕ → List Case
+placeCases view places = (ltb places (length view) gives ShortList) ∷ []
+
+-- before it the view is judged by 1 and 2, as a table is
 unfoldable pub askCases : ℕ → List ℕ → ℕ → List Case
-askCases d view places = tableCases mostInView d view ++ ((ltb places (length view) gives ShortList) ∷ [])
+askCases d view places = tableCases mostInView d view ++ placeCases view places
 
 -- where there are so many places
 unfoldable pub answered : ℕ → List ℕ → ℕ → Answer

@@ -1,6 +1,8 @@
 -- A reader made of a file and a cursor: its type, and what it owns of what the file's slice owns. Assumes `Given`.
-use Rattle.walks.proofs.Walk.{refl, ℕ, _<_, _^_, List, [], _∷_, length, URA, named, w64, Val, ent, Lft, Fml, Heap, Atoms, sem, Given, ‵, _$_, _∵_, !, qed, by}
-use Rattle.walks.proofs.Walk.{move, fjoin, RattleType, Is, uint-makes, u8, usize, RefT, NamedLft, namedLft, sliceVal, ShrSlice, owned, nothing, own-shut}
+use Rattle.walks.proofs.Walk.{refl, ℕ, _<_, _^_, List, [], _∷_, length, URA, named, w64, Val, ent, Lft, Fml, Heap, Atoms, sem, Given, ‵, _$_, _∵_, ! }
+use Rattle.walks.proofs.Walk.{qed, by}
+use Rattle.walks.proofs.Walk.{move, fjoin, RattleType, Is, uint-makes, u8, usize, RefT, NamedLft, namedLft, sliceVal, ShrSlice, owned, nothing}
+use Rattle.walks.proofs.Walk.{own-shut}
 use Rattle.files.specs.declared.reader.Reader.{Reader}
 use Rattle.files.proofs.reader.Reader as readers
 use Rattle.files.proofs.reader.Reader.Laws as reader-laws
@@ -26,7 +28,8 @@ made file cursor = record { file = file; at = cursor }
 abbrev pub FileOwn : Lft → RefT (List ℕ) → Fml
 FileOwn κ-file file = ShrSlice (named 0) κ-file u8 .own file (file-value file ∷ [])
 
-pub made-owns : (κ-file : Lft) (file : RefT (List ℕ)) (cursor : ℕ) {M : Type 1} (𝓤 : URA M) (H : Heap 𝓤) (A : Atoms 𝓤) (W : Given 𝓤 H A) → cursor < 2 ^ 64
+pub made-owns : (κ-file : Lft) (file : RefT (List ℕ)) (cursor : ℕ) {M : Type 1} (𝓤 : URA M) (H : Heap 𝓤) (A : Atoms 𝓤) (W : Given 𝓤 H A)
+    → cursor < 2 ^ 64
     → ent 𝓤 (sem 𝓤 H A (FileOwn κ-file file)) (sem 𝓤 H A (ReaderType κ-file .own (made file cursor) (reader-value (made file cursor) ∷ [])))
 made-owns κ-file file cursor 𝓤 H A W fits =
     qed W (‵ (FileOwn κ-file file) ∷ []) ∵ nothing ! $

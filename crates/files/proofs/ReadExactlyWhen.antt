@@ -3,20 +3,19 @@ use Prim.Native.Nat.{ℕ, _<_}
 use mathlib.Core.Path.{_≡_, refl, ap}
 use mathlib.Core.Logic.{_↔_, _≢_}
 use mathlib.Core.Bool.{true, false, not}
-use mathlib.Core.List.{List, [], _∷_, List·Memᴰ·head, Memᴰ·append-left, Memᴰ·append-right}
+use mathlib.Core.List.{List, List·Memᴰ·head, Memᴰ·append-left, Memᴰ·append-right}
 use native.Mathlib.Omega.{arith}
-use lib.Dec.{ltb}
 use borrow.Author.Tests.{not-true, not-false}
 use Rattle.sets.specs.Sets.{below}
 use Rattle.sets.proofs.Bools.{not-both}
-use Rattle.refusals.specs.declared.Refusal.the-variants.{RowOver, FewPlaces}
-use Rattle.refusals.specs.Cases.{_gives_, _names_, place, Given, Rising}
+use Rattle.refusals.specs.declared.Refusal.the-variants.{RowOver}
+use Rattle.refusals.specs.Cases.{_names_, place, Given, Rising}
 use Rattle.refusals.proofs.GivenExactlyWhen.{low-never, given-exactly-when, own-refusal, none-given}
 use Rattle.refusals.proofs.RowsReturned.{found-place, no-row}
 use Rattle.files.specs.declared.Lesson.{Lesson}
 use Rattle.files.specs.declared.Lesson.the-variants.{Read, Refused}
 use Rattle.files.specs.Files.{valuesIn, countIn, rowIn}
-use Rattle.files.specs.FileCases.{frontCases, rowOver, rowCases, readCases}
+use Rattle.files.specs.FileCases.{frontCases, rowOver, rowCases, placeCases, readCases}
 use Rattle.files.specs.Reading.{numberOf, rowOf, valuesOf, countOf, answered}
 use Rattle.files.proofs.RowLaws.{lowest-says}
 
@@ -60,12 +59,13 @@ module _ (file : List ℕ) (places : ℕ) where
       × ((j : ℕ) → j < rowOf answer → below (valuesIn file) (rowIn file j) ≡ true)
   unfolding answered rowCases
   row-over-returns e =
-      let member = Memᴰ·append-left ((ltb places (countIn file) gives FewPlaces) ∷ []) (Memᴰ·append-right (frontCases file) (List·Memᴰ·head refl)) in
+      let member = Memᴰ·append-left (placeCases file places) (Memᴰ·append-right (frontCases file) (List·Memᴰ·head refl)) in
       let own = own-refusal Refused numberOf (λ r. refl) accepts refl 19 (readCases file places) read-rising (rowOver file names RowOver) member e in
-      let lowest = lowest-says (λ i. not (below (valuesIn file) (rowIn file i))) (countIn file) (place (rowOver file)) (found-place (rowOver file) (own .0)) in
+      let i = place (rowOver file) in
+      let lowest = lowest-says (λ j. not (below (valuesIn file) (rowIn file j))) (countIn file) i (found-place (rowOver file) (own .0)) in
       rw (ap rowOf (own .1)) (
         lowest .inside,
-        not-true (below (valuesIn file) (rowIn file (place (rowOver file)))) (lowest .passes),
+        not-true (below (valuesIn file) (rowIn file i)) (lowest .passes),
         λ j h. not-false (below (valuesIn file) (rowIn file j)) (lowest .before j h),
       )
 

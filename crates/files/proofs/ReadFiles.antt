@@ -4,19 +4,19 @@ use Prim.Native.Nat.{ℕ, _+_, _*_, _≤_}
 use mathlib.Core.Path.{_≡_, sym, ap, _∙_}
 use mathlib.Core.Logic.{_≢_, inl, inr}
 use mathlib.Core.Bool.{cond}
-use mathlib.Core.List.{List, [], _∷_}
+use mathlib.Core.List.{List}
 use native.Mathlib.Omega.{arith}
 use lib.Dec.{ltb}
 use lib.ListN.{length}
 use borrow.Author.Tests.{ltb-false}
 use Rattle.refusals.specs.declared.Refusal.{Refusal}
 use Rattle.refusals.specs.declared.Refusal.the-variants.{FewPlaces}
-use Rattle.refusals.specs.Cases.{Case, _gives_, decided}
+use Rattle.refusals.specs.Cases.{decided}
 use Rattle.refusals.proofs.Outcomes.{NoneApplies, outcome, stands, refuses, stands-first, refuses-first, refusing}
 use Rattle.files.specs.declared.Lesson.{Lesson}
 use Rattle.files.specs.declared.Lesson.the-variants.{Read, Refused}
 use Rattle.files.specs.Files.{valuesIn, countIn}
-use Rattle.files.specs.FileCases.{frontCases, fileCases}
+use Rattle.files.specs.FileCases.{frontCases, fileCases, placeCases}
 use Rattle.files.specs.Reading.{countOf, judged, answered}
 
 -- no refusal is an answer that the file is read
@@ -51,19 +51,16 @@ module _ (file : List ℕ) where
       record { count = count; long = rw count (ltb-false (length file) (8 + 8 * countIn file) (none .0 .1 .1 .1 .1 .1 .0)) }
 
   module _ (places : ℕ) where
-    abbrev placeCases : List Case
-    placeCases = (ltb places (countIn file) gives FewPlaces) ∷ []
-
     -- the list is looked at where the file is read
     pub then-places : (d t : ℕ) → judged file ≡ Read d t → answered file places ≡ cond (ltb places t) (Refused FewPlaces) (Read d t)
     unfolding answered decided
     then-places d t e =
         let none = read-none d t e in
-        stands-first Refused (fileCases file) placeCases (none .0) accepts
+        stands-first Refused (fileCases file) (placeCases file places) (none .0) accepts
         ∙ (λ i. cond (ltb places (countOf (none .1 i))) (Refused FewPlaces) (none .1 i))
 
     pub still-refused : (r : Refusal) → judged file ≡ Refused r → answered file places ≡ Refused r
     unfolding judged answered
     still-refused r e =
         let given = refusing Refused accepts (apart (valuesIn file) (countIn file)) same (fileCases file) r e in
-        refuses-first Refused (fileCases file) placeCases r given accepts
+        refuses-first Refused (fileCases file) (placeCases file places) r given accepts

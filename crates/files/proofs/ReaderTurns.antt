@@ -1,4 +1,5 @@
--- A fresh reader, stepped through a file: it hands out exactly the rows that `read` writes, in order, and then says that there are no more, and keeps saying so. Over a file with any refusal but 28 it says so at once. Assumes nothing.
+-- A fresh reader, stepped through a file: it hands out exactly the rows that `read` writes, in order, and then says that there are no more,
+-- and keeps saying so. Over a file with any refusal but 28 it says so at once. Assumes nothing.
 use Prim.Native.Nat.{ℕ, zero, suc, _+_, _≤_, _<_}
 use mathlib.Core.Path.{_≡_, refl, sym, ap, _∙_}
 use mathlib.Core.List.{List, [], _∷_, _++_, append-assoc}
@@ -24,7 +25,9 @@ use Rattle.files.proofs.ReadFiles.{readable}
 length-list : (f : ℕ → ℕ) (n : ℕ) → length (listTo f n) ≡ n
 unfolding listTo
 length-list f zero = refl
-length-list f (suc n) = let e : length (listTo f n ++ (f n ∷ [])) ≡ length (listTo f n) + 1 = length-append (listTo f n) (f n ∷ []) in omega (arith, length-list f n)
+length-list f (suc n) =
+    let e : length (listTo f n ++ (f n ∷ [])) ≡ length (listTo f n) + 1 = length-append (listTo f n) (f n ∷ []) in
+    omega (arith, length-list f n)
 
 list-at : (f : ℕ → ℕ) (n i : ℕ) (rest : List ℕ) → i < n → getD (listTo f n ++ rest) i zero ≡ f i
 unfolding listTo

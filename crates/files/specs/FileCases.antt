@@ -39,5 +39,8 @@ module _ (file : List ℕ) where
   fileCases = frontCases ++ rowCases
 
   -- '28 the lent row list has fewer than T places'
+  abbrev pub placeCases : ℕ → List Case
+  placeCases places = (ltb places (countIn file) gives FewPlaces) ∷ []
+
   abbrev pub readCases : ℕ → List Case
-  readCases places = fileCases ++ ((ltb places (countIn file) gives FewPlaces) ∷ [])
+  readCases places = fileCases ++ placeCases places

@@ -21,7 +21,8 @@ impl<'a> Reader<'a> {
 
     // The next row, or that there are no more; the cursor moves on.
     pub fn next(&mut self) -> Row
-        ensures { λ x. ⌜ (x ≡ stepAt (now (now (self .entry) .file)) (now (self .entry) .at) .row) × (now (self .exit) ≡ moved (now (self .entry))) ⌝ }
+        ensures { λ x. ⌜ (x ≡ stepAt (now (now (self .entry) .file)) (now (self .entry) .at) .row)
+            × (now (self .exit) ≡ moved (now (self .entry))) ⌝ }
     {
         let step = step_at(self.file, self.at);
         self.at = step.next;

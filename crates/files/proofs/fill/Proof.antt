@@ -1,10 +1,10 @@
 -- `fill` meets its contract. The invariant: the cells before the next stand at the front. Assumes nothing.
-use Prim.Native.Nat.{_+_, _-_, _≤_}
+use Prim.Native.Nat.{_+_, _-_, _≤_, _<_}
 use mathlib.Core.Path.{_≡_, refl, _∙_}
 use mathlib.Core.List.{_++_}
 use native.Mathlib.Omega.{arith}
 use borrow.Author.Needs.{needs}
-use lib.ListN.{drop}
+use lib.ListN.{length, drop}
 use Rattle.files.specs.Rows.{listTo}
 use Rattle.files.specs.Files.{cellIn}
 use Rattle.files.proofs.Filling.{Filling, filling-start, filling-next, filling-end}
@@ -33,7 +33,9 @@ mul-rows : tie.Need-mul-rows Inv-loop μ-loop
 mul-rows c = search needs
 
 slice-write-rows : tie.Need-slice-write-rows Inv-loop μ-loop
-slice-write-rows c = omega (arith, c .before .before .before .loop .inv .1 .long, c .before .before .loop-test .taken, c .before .before .before .before .before .before .before .pre .2)
+slice-write-rows c =
+    let e = c .before .before .before .before .before .before .before in
+    omega (arith, c .before .before .before .loop .inv .1 .long, c .before .before .loop-test .taken, e .pre .2)
 
 add-next : tie.Need-add-next Inv-loop μ-loop
 add-next c = search needs
@@ -45,8 +47,11 @@ loop-again : tie.Need-loop-again Inv-loop μ-loop
 unfolding cellIn
 loop-again c = let e = c .before .before .before .before .before .before .before in
     let l = c .before .before .before .loop in
-    let same : c .known .result ≡ cellIn (e .args .file .now) (l .next) = c .known .ensures ∙ (rw (c .before .row .ensures, c .before .before .before .before .union .ensures, e .pre .0) refl) in
-    (omega (arith, c .before .before .loop-test .taken), rw same (filling-next (cellIn (e .args .file .now)) (e .args .rows .now) (l .rows) (l .next) (l .inv .1) (omega (arith, c .before .before .loop-test .taken, e .pre .2))))
+    let less = c .before .before .loop-test .taken in
+    let same : c .known .result ≡ cellIn (e .args .file .now) (l .next) =
+    c .known .ensures ∙ (rw (c .before .row .ensures, c .before .before .before .before .union .ensures, e .pre .0) refl) in
+    let inside : l .next < length (e .args .rows .now) = omega (arith, less, e .pre .2) in
+    (omega (arith, less), rw same (filling-next (cellIn (e .args .file .now)) (e .args .rows .now) (l .rows) (l .next) (l .inv .1) inside))
 
 same-length : tie.Need-same-length Inv-loop μ-loop
 same-length c = c .before .loop .inv .1 .long

@@ -14,14 +14,18 @@ enum-known-lesson : tie.Need-enum-known-lesson
 enum-known-lesson c = search needs
 
 cell-requires : tie.Need-cell-requires
-cell-requires c κs = let R = readable _ _ _ (sym (c .before .before .before .before .judge .ensures) ∙ c .before .before .lesson .given .1) in (R .count, c .if1 .taken, R .long)
+cell-requires c κs =
+    let R = readable _ _ _ (sym (c .before .before .before .before .judge .ensures) ∙ c .before .before .lesson .given .1) in
+    (R .count, c .if1 .taken, R .long)
 
 add-t9 : tie.Need-add-t9
 add-t9 c = search needs
 
 returns : tie.Need-returns
 unfolding stepAt
-returns c = rw (sym (c .before .before .before .before .before .judge .ensures) ∙ c .before .before .before .lesson .given .1, lt-ltb _ _ (c .before .if1 .taken), c .cell .ensures) refl
+returns c =
+    let read = sym (c .before .before .before .before .before .judge .ensures) ∙ c .before .before .before .lesson .given .1 in
+    rw (read, lt-ltb _ _ (c .before .if1 .taken), c .cell .ensures) refl
 
 enum-told : tie.Need-enum-told
 enum-told c = search needs

@@ -22,7 +22,8 @@ loop-holds c = (omega arith, refl, omega arith)
 mul-value : tie.Need-mul-value Inv-loop μ-loop
 mul-value c =
     let l = c .before .loop in
-    record { fits = omega (arith, cap-next (l .value) 0 (l .next) (l .inv .2) (omega arith), cap-fits (l .next + 1) (omega (arith, c .loop-test .taken, c .before .before .pre .0))) }
+    let fits = cap-fits (l .next + 1) (omega (arith, c .loop-test .taken, c .before .before .pre .0)) in
+    record { fits = omega (arith, cap-next (l .value) 0 (l .next) (l .inv .2) (omega arith), fits) }
 
 add-value : tie.Need-add-value Inv-loop μ-loop
 add-value c = search needs
@@ -61,7 +62,8 @@ loop-again c =
     let b = getD (e .args .file .now) (e .args .from + l .next) 0 in
     let byte = c .shared-slice-known .given (e .args .from + l .next) .fits in
     let less = cap-next (l .value) b (l .next) (l .inv .2) byte in
-    (omega (arith, c .before .loop-test .taken), ap (λ (v : ℕ). v * 256 + b) (l .inv .1) ∙ sym (big-next (e .args .file .now) (e .args .from) (l .next)), less)
+    let next = sym (big-next (e .args .file .now) (e .args .from) (l .next)) in
+    (omega (arith, c .before .loop-test .taken), ap (λ (v : ℕ). v * 256 + b) (l .inv .1) ∙ next, less)
 
 returns : tie.Need-returns Inv-loop μ-loop
 returns c =

@@ -1,11 +1,14 @@
 -- `take` meets its contract: a walk of its code, by hand. A local reader is made of the file and the cursor and lent to `Reader::next`
 -- for a lifetime made for that call, within the file's own; then it is taken back, and the step is put together of the row and the reader's cursor.
 -- Of `next` only its contract is used. Assumes nothing.
-use Rattle.walks.proofs.Walk.{_≡_, refl, ap, ℕ, _<_, _^_, List, [], _∷_, URA, fullShare, PosShare·left, PosShare·right, named, erased, w64, Val, vint, vptr}
+use Rattle.walks.proofs.Walk.{_≡_, refl, ap, ℕ, _<_, _^_, List, [], _∷_, URA, fullShare, PosShare·left, PosShare·right, named, erased, w64, Val, vint}
+use Rattle.walks.proofs.Walk.{vptr}
 use Rattle.walks.proofs.Walk.{SProp, ent, emp, via, fst∗, id⊢, GName, Lft, Share, Fml, ftrue, fsep, flft, fdead, fat, flent, meet-⊑-right}
 use Rattle.walks.proofs.Walk.{Memory, Routine, Heap, Calls, Loops, WpFn, Tables, Atoms, Fun, fact, givenOf, tables, tablesOf}
-use Rattle.walks.proofs.Walk.{Given, Item, ‵, raw, _⊛_, ⋆, some, later, _$_, _∵_, !, qed, by, move, keep, drop, use1, use2, use3, split, join, pick, rewrite}
-use Rattle.walks.proofs.Walk.{fsplit, fjoin, suffices, frame, await, done, agg, whole, sub, look-in, look, init, forget, lft-new, lends-ref, ref-back, cellAt}
+use Rattle.walks.proofs.Walk.{Given, Item, ‵, raw, _⊛_, ⋆, some, later, _$_, _∵_, !, qed, by, move, keep, drop, use1, use2, use3, split, join, pick}
+use Rattle.walks.proofs.Walk.{rewrite}
+use Rattle.walks.proofs.Walk.{fsplit, fjoin, suffices, frame, await, done, agg, whole, sub, look-in, look, init, forget, lft-new, lends-ref, ref-back}
+use Rattle.walks.proofs.Walk.{cellAt}
 use Rattle.walks.proofs.Walk.{stop, fld, from, load, addr, of-opd, and-then, no-more, assigns, land, returns, enter, Rest, within-token, within-end}
 use Rattle.walks.proofs.Walk.{alloc1, alloc0, params1, pass1, pass0, free1, free0, Body, FmC, fmOf, WpFn-mono, RattleType, owns, Is, shows, mem}
 use Rattle.walks.proofs.Walk.{uint-vals, uint-tells, uint-makes, u8, usize, RefT, MutRef, now, plain, ShrSlice, slice-vals}
@@ -88,8 +91,16 @@ module _ {M : Type 1} (𝓤 : URA M) (H : Heap 𝓤) (A : Atoms 𝓤) (W : Given
   passed block name = (record { ptr = (block, 0); name = name; now = before }, tt)
 
   abbrev to-next : ℕ → ℕ → GName → Next 𝓤 H A at-mem run .Ghost
-  to-next life block name =
-      (((life ∷ κ-file, (κ-file, tt)), (q-loan, (q-beside, tt)), (meet-⊑-right (life ∷ []) κ-file, tt), passed block name, (vptr block 0 ∷ [], tt)), tt)
+  to-next life block name = (
+    (
+      (life ∷ κ-file, (κ-file, tt)),
+      (q-loan, (q-beside, tt)),
+      (meet-⊑-right (life ∷ []) κ-file, tt),
+      passed block name,
+      (vptr block 0 ∷ [], tt),
+    ),
+    tt,
+  )
 
   abbrev LentOwn : ℕ → ℕ → GName → Fml
   LentOwn life block name = MutRef (named 0) (life ∷ κ-file) Readers .own (passed block name .0) (vptr block 0 ∷ [])
@@ -140,7 +151,8 @@ module _ {M : Type 1} (𝓤 : URA M) (H : Heap 𝓤) (A : Atoms 𝓤) (W : Given
         -- the file's slice is Copy: one is kept, and of the other the reader owns what it owns
         move ! (15 ∷ []) $ fsplit ! $
         use1 W (‵ (FileOwn κ-file file) ⊛ ‵ (FileOwn κ-file file)) (shr-slice-copy 𝓤 H A W (named 0) κ-file u8 .twice file (file-value file ∷ [])) $
-        split ! $ move ! (2 ∷ []) $ drop ! $ use1 W (‵ (Readers .own before (reader-value before ∷ []))) (made-owns κ-file file cursor 𝓤 H A W cursor-fits) $
+        split ! $ move ! (2 ∷ []) $ drop ! $
+        use1 W (‵ (Readers .own before (reader-value before ∷ []))) (made-owns κ-file file cursor 𝓤 H A W cursor-fits) $
         -- the local is lent, for a lifetime within the file's
         move ! (8 ∷ 0 ∷ []) $
         use1 W (‵ (cellAt fullShare (Readers .mir) (reader-value before ∷ []) l₃ 0))
@@ -148,19 +160,22 @@ module _ {M : Type 1} (𝓤 : URA M) (H : Heap 𝓤) (A : Atoms 𝓤) (W : Given
         use2 W (‵ (mem Readers .lies before l₃ 0)) (lies-in 𝓤 H A W Readers before l₃ 0 (reader-value before ∷ [])) $
         lft-new ! tt (λ life. move ! (16 ∷ []) $ split ! $
         use1 W (‵ (flft κ-file q-loan) ⊛ ‵ (flft κ-file q-beside)) (W .lfts .lft-split κ-file q-file) $ split ! $ move ! (3 ∷ 0 ∷ []) $
-        use2 W (‵ (flft (life ∷ κ-file) q-loan) ⊛ raw (Rest 𝓤 H A W life q-loan)) (within-token 𝓤 H A W life κ-file q-loan) $ split ! $ move ! (4 ∷ []) $
+        use2 W (‵ (flft (life ∷ κ-file) q-loan) ⊛ raw (Rest 𝓤 H A W life q-loan)) (within-token 𝓤 H A W life κ-file q-loan) $
+        split ! $ move ! (4 ∷ []) $
         use1 W (later (some (λ (name : GName). ‵ (LentOwn life l₃ name) ⊛ ‵ (flent (life ∷ κ-file) (Body (mem Readers) l₃ 0 name)))))
         (lends-ref 𝓤 H A W Readers (named 0) (life ∷ κ-file) before l₃ 0) $ await ! tt $ pick ! (λ name. split ! $
         -- [the reference; the lender's part; the loan's token; the way back; the other half of the file's; true; what the file owns; _6 (7); …]
         move ! (4 ∷ 5 ∷ []) $ join ! $ move ! (3 ∷ 0 ∷ []) $ join ! $
         use2 W (raw (Next 𝓤 H A at-mem run .pre (to-next life l₃ name))) (asked life l₃ name) $
-        calls-at ! fm (Next 𝓤 H A at-mem run) known (to-next life l₃ name) (and-then ! (load ! (from ! (stop !)) (look ! 6 refl)) (no-more !)) (λ value.
+        calls-at ! fm (Next 𝓤 H A at-mem run) known (to-next life l₃ name)
+        (and-then ! (load ! (from ! (stop !)) (look ! 6 refl)) (no-more !)) (λ value.
         use1 W (later (some (λ (row : Row). (tokens life ⊛ ‵ (rows.the-row .own row (value ∷ [])))
         ⊛ raw (ensured 𝓤 H A next.ended (next.clauses 𝓤 H A at-mem run) (life ∷ κ-file, (κ-file, tt)) (passed l₃ name) tt row)))) (id⊢ 𝓤 _) $
         await ! tt $ pick ! (λ row. split ! $ move ! (1 ∷ []) $
         use1 W (some (λ (lasting : Reader × Unit {0}). ‵ (lasts next.ended (life ∷ κ-file, (κ-file, tt)) (passed l₃ name) lasting)
         ⊛ raw (fact 𝓤 (Said row (lasting .0))))) (id⊢ 𝓤 _) $
-        pick ! (λ lasting. split ! $ move ! (1 ∷ []) $ heard ! (Said row (lasting .0)) (λ said. fsplit ! $ move ! (2 ∷ []) $ split ! $ move ! (1 ∷ []) $
+        pick ! (λ lasting. split ! $ move ! (1 ∷ []) $
+        heard ! (Said row (lasting .0)) (λ said. fsplit ! $ move ! (2 ∷ []) $ split ! $ move ! (1 ∷ []) $
         -- [the row's; the tokens; the last reader; true; the lender's part; the way back; what the file owns;
         -- _6 (7); _5 (9); _4 (11); _3's end (13); _2 (14); _1 (16); room for _0 (18)]
         peeks ! rows.the-row (Is rows.the-row) (shows 𝓤 H A rows.the-row) row (value ∷ []) (λ row-is.

@@ -4,10 +4,13 @@
 use Rattle.walks.proofs.Walk.{_≡_, refl, ap, ℕ, _<_, _^_, List, [], _∷_, URA, fullShare, named, erased, w64, Val, vint, vptr}
 use Rattle.walks.proofs.Walk.{SProp, ent, sep, emp, via, fst∗, snd∗, exE, id⊢, GName, Lft, Share, Fml, ftrue, flft, fat, fobs, fbor}
 use Rattle.walks.proofs.Walk.{Memory, Routine, Heap, Calls, Loops, WpFn, Tables, Atoms, sem, AllOutlive, Fun, fact, givenOf, tables, tablesOf}
-use Rattle.walks.proofs.Walk.{Given, Item, ‵, raw, _⊛_, given, ⋆, some, later, _$_, _∵_, !, qed, by, move, keep, drop, use1, use2, split, join, learn, pick}
-use Rattle.walks.proofs.Walk.{rewrite, fsplit, fsplit3, fjoin, fjoin3, feqI, suffices, frame, await, done, whole, sub, look-in, store-in, look, init, forget}
+use Rattle.walks.proofs.Walk.{Given, Item, ‵, raw, _⊛_, given, ⋆, some, later, _$_, _∵_, !, qed, by, move, keep, drop, use1, use2, split, join, learn}
+use Rattle.walks.proofs.Walk.{pick}
+use Rattle.walks.proofs.Walk.{rewrite, fsplit, fsplit3, fjoin, fjoin3, feqI, suffices, frame, await, done, whole, sub, look-in, store-in, look, init}
+use Rattle.walks.proofs.Walk.{forget}
 use Rattle.walks.proofs.Walk.{stop, hop, fld, from, load, of-opd, and-then, no-more, assigns, land, returns, enter}
-use Rattle.walks.proofs.Walk.{alloc1, alloc0, params1, pass1, pass0, free1, free0, Body, FmC, fmOf, WpFn-mono, RattleType, owns, Is, shows, mem, cellAt}
+use Rattle.walks.proofs.Walk.{alloc1, alloc0, params1, pass1, pass0, free1, free0, Body, FmC, fmOf, WpFn-mono, RattleType, owns, Is, shows, mem}
+use Rattle.walks.proofs.Walk.{cellAt}
 use Rattle.walks.proofs.Walk.{uint-makes, u8, usize, RefT, NamedLft, MutRef, ptr-vals, mut-tells, Slot, plain, namedLft, ShrSlice, only}
 use Rattle.walks.proofs.Walk.{opens, closes, owned, peeks, heard, nothing, Declared, all-own, ownAt, rest, own-open, own-out, own-put, spelt, Values}
 use Rattle.walks.proofs.Walk.{Contract, Triple, calls-at, ensured, lasts, Vals, onEntry, Meets, tripleOf, entered, cited}
@@ -143,7 +146,8 @@ module _ {M : Type 1} (𝓤 : URA M) (H : Heap 𝓤) (A : Atoms 𝓤) (W : Given
       ‵ (fobs name (Readers .coded .code (moved (step .next)))) ∷ ‵ (fbor κ-reader (Body (mem Readers) block offset name)) ∷
       ‵ (flft κ-reader q-reader) ∷ token ∷ []
 
-  exits : (step : Step) → step ≡ found → Is rows.the-row (step .row) (row-value (step .row) ∷ []) → ent 𝓤 (⋆ 𝓤 H A (Left step)) (Post (row-value (step .row)))
+  exits : (step : Step) → step ≡ found → Is rows.the-row (step .row) (row-value (step .row) ∷ [])
+      → ent 𝓤 (⋆ 𝓤 H A (Left step)) (Post (row-value (step .row)))
   exits step is-found is =
       qed W (Left step) ∵
       suffices ! _ (ends-at 𝓤 H A next.ended stayed (next.clauses 𝓤 H A at-mem run) W
@@ -160,11 +164,13 @@ module _ {M : Type 1} (𝓤 : URA M) (H : Heap 𝓤) (A : Atoms 𝓤) (W : Given
     walk =
         qed W ((‵ (flft κ-reader q-reader) ⊛ token) ∷ ‵ (owns (MutRef (named 0) κ-reader Readers ∷ []) params values) ∷ []) ∵
         enter ! C Λ code.function (vptr block offset ∷ []) _ $
-        alloc1 ! (λ l₀. alloc1 ! (λ l₁. alloc1 ! (λ l₂. alloc1 ! (λ l₃. alloc1 ! (λ l₄. alloc0 ! $ params1 ! $ pass1 ! (init ! 6 refl (tt, tt)) $ pass0 ! $
+        alloc1 ! (λ l₀. alloc1 ! (λ l₁. alloc1 ! (λ l₂. alloc1 ! (λ l₃. alloc1 ! (λ l₄. alloc0 ! $
+        params1 ! $ pass1 ! (init ! 6 refl (tt, tt)) $ pass0 ! $
         -- the borrow is opened
         move ! (11 ∷ []) $ fsplit ! $ fsplit3 ! $ drop ! $ move ! (13 ∷ []) $ split ! $ move ! (2 ∷ 3 ∷ 0 ∷ []) $
         opens ! tt Readers {h = before} block offset (λ vs.
-        spelt ! Readers (Is Readers) (shows 𝓤 H A Readers) (struct.vals the-type the-laws) (struct.tells the-type the-laws) fullShare before vs block offset $
+        spelt ! Readers (Is Readers) (shows 𝓤 H A Readers) (struct.vals the-type the-laws) (struct.tells the-type the-laws)
+        fullShare before vs block offset $
         use1 W (‵ (fat fullShare (reader-laws.mir erased) block offset before-value))
         (W .laws .raw-at fullShare (reader-laws.mir erased) block offset before-value) $
         move ! (1 ∷ []) $ peeks ! Readers (Is Readers) (shows 𝓤 H A Readers) before (before-value ∷ []) (λ before-is.
@@ -186,14 +192,17 @@ module _ {M : Type 1} (𝓤 : URA M) (H : Heap 𝓤) (A : Atoms 𝓤) (W : Given
         -- _4 (8); _3 (10); _2 (12); _1 (14); room for _0 (16)]
         peeks ! steps.the-row (Is steps.the-row) (shows 𝓤 H A steps.the-row) step (value ∷ []) (λ step-is.
         land ! (from ! (stop !)) (init ! 12 refl (struct.lawful steps.the-type step-laws.the-laws 𝓤 H A W .typed step _ step-is .0)) $
-        rewrite ! 12 (λ (u : Val). ‵ (fat fullShare step-laws.mir l₂ 0 u)) (ap only (struct.tells steps.the-type step-laws.the-laws step _ step-is)) refl $
+        rewrite ! 12 (λ (u : Val). ‵ (fat fullShare step-laws.mir l₂ 0 u))
+        (ap only (struct.tells steps.the-type step-laws.the-laws step _ step-is)) refl $
         assigns ! (of-opd ! (load ! (from ! (fld ! refl (stop !))) (look-in ! 12 (sub ! 1 refl (whole !)))))
-        (from ! (hop ! (look ! 14 refl) (fld ! refl (stop !)))) (store-in ! 3 (sub ! 1 refl (whole !)) (tt, record { fits = next-fits step _ step-is })) $
+        (from ! (hop ! (look ! 14 refl) (fld ! refl (stop !))))
+        (store-in ! 3 (sub ! 1 refl (whole !)) (tt, record { fits = next-fits step _ step-is })) $
         assigns ! (of-opd ! (load ! (from ! (fld ! refl (stop !))) (look-in ! 12 (sub ! 0 refl (whole !))))) (from ! (stop !))
         (init ! 16 refl (enum.lawful rows.the-type row-laws.the-laws 𝓤 H A W tt .typed (step .row) _ (row-is step _ step-is) .0)) $
         -- the borrow is closed at the moved reader
         let after = moved (step .next) in
-        move ! (2 ∷ []) $ use1 W (‵ (Readers .own after (reader-value after ∷ []))) (again (step .next) (next-fits step _ step-is)) $ move ! (3 ∷ []) $
+        move ! (2 ∷ []) $ use1 W (‵ (Readers .own after (reader-value after ∷ []))) (again (step .next) (next-fits step _ step-is)) $
+        move ! (3 ∷ []) $
         use1 W (‵ (cellAt fullShare (Readers .mir) (reader-value after ∷ []) block offset))
         (W .laws .at-raw fullShare (reader-laws.mir erased) block offset (reader-value after)) $
         move ! (0 ∷ 1 ∷ 4 ∷ 5 ∷ 6 ∷ []) $ closes ! tt Readers after (reader-value after ∷ []) block offset $
