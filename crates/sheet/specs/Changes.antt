@@ -5,16 +5,17 @@ use mathlib.Core.List.{List, _++_}
 use lib.Bits.{bitOr}
 use lib.Dec.{leb, ltb}
 use lib.ListN.{length, set, replicate}
+use Rattle.sets.specs.Limits.{mostPlaces, wordBits}
 use Rattle.sets.specs.Sets.{single}
 use Rattle.theory.specs.Pairings.{at}
 use Rattle.sheet.specs.declared.Sheet.{Sheet}
 use Rattle.sheet.specs.Upto.{countTo, those}
-use Rattle.sheet.specs.Sheets.{owns, word}
+use Rattle.sheet.specs.Sheets.{owns, markWords, allMarks, word}
 
 -- 'a fresh sheet for this d and T: no marks, no rows'
 unfoldable pub freshSheet : ℕ → ℕ → ℕ → Sheet
 freshSheet d rows desks =
-    record { d = d; rows = rows; desks = desks; used = zero; marks = replicate 128 zero; sets = replicate 512 zero; owners = replicate 512 zero }
+    record { d = d; rows = rows; desks = desks; used = zero; marks = replicate allMarks zero; sets = replicate mostPlaces zero; owners = replicate mostPlaces zero }
 
 -- the sheet with other marks
 abbrev pub marking : Sheet → List ℕ → Sheet
@@ -26,7 +27,7 @@ placing s used sets owners = record { d = s .d; rows = s .rows; desks = s .desks
 
 -- 'hidden at this desk': table row n at desk k
 unfoldable pub hide : List ℕ → ℕ → ℕ → List ℕ
-hide marks k n = set marks (word k n) (bitOr (at marks (word k n)) (single (n % 64)))
+hide marks k n = set marks (word k n) (bitOr (at marks (word k n)) (single (n % wordBits)))
 
 abbrev pub hiding : Sheet → ℕ → ℕ → Sheet
 hiding s k n = marking s (hide (s .marks) k n)
@@ -37,9 +38,9 @@ adding s k row = placing s (suc (s .used)) (set (s .sets) (s .used) row) (set (s
 
 -- ---- rows taken out, 'the rest close up in order'
 
--- rows or owners as the 512 places hold them
+-- rows or owners as the places hold them
 unfoldable pub padded : List ℕ → List ℕ
-padded l = l ++ replicate (512 - length l) zero
+padded l = l ++ replicate (mostPlaces - length l) zero
 
 -- place i holds none of the desk's rows number `from` to `upto` - 1; before it the desk has as many rows as it owns places
 abbrev pub stays : List ℕ → ℕ → ℕ → ℕ → ℕ → Bool
@@ -60,8 +61,8 @@ wiped marks first zero = marks
 wiped marks first (suc n) = set (wiped marks first n) (first + n) zero
 
 abbrev pub showing : Sheet → ℕ → Sheet
-showing s k = marking s (wiped (s .marks) (k * 4) 4)
+showing s k = marking s (wiped (s .marks) (k * markWords) markWords)
 
 -- 'this desk's marks and rows are gone, other desks' order stays'
 abbrev pub resetting : Sheet → ℕ → Sheet
-resetting s k = showing (without s k zero 512) k
+resetting s k = showing (without s k zero mostPlaces) k

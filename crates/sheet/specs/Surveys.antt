@@ -4,11 +4,11 @@ use mathlib.Core.Path.{_≡_}
 use mathlib.Core.Bool.{Bool, true}
 use mathlib.Core.List.{List, []}
 use lib.ListN.{length}
-use Rattle.sets.specs.Limits.{mostDesks}
+use Rattle.sets.specs.Limits.{mostDesks, wordBits}
 use Rattle.sets.specs.Sets.{has}
 use Rattle.theory.specs.Pairings.{at}
 use Rattle.sheet.specs.declared.Sheet.{Sheet}
-use Rattle.sheet.specs.Sheets.{held}
+use Rattle.sheet.specs.Sheets.{held, markWords}
 
 -- the sheet of these parts
 abbrev pub sheetOf : ℕ → ℕ → ℕ → ℕ → List ℕ → List ℕ → List ℕ → Sheet
@@ -28,8 +28,8 @@ marksOf desks rows marks = sheetOf zero rows desks zero marks [] []
 
 -- r has the rows that a word of marks may have: those below T, where its desk exists
 pub record MayHide (desks rows word r : ℕ) : Type 0 where
-  pub only : (v : ℕ) → has r v ≡ true → (word / 4 < desks) × (word % 4 * 64 + v < rows)
-  pub all : (v : ℕ) → v < 64 → word / 4 < desks → word % 4 * 64 + v < rows → has r v ≡ true
+  pub only : (v : ℕ) → has r v ≡ true → (word / markWords < desks) × (word % markWords * wordBits + v < rows)
+  pub all : (v : ℕ) → v < wordBits → word / markWords < desks → word % markWords * wordBits + v < rows → has r v ≡ true
 
 -- ---- what is answered
 

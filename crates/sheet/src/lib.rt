@@ -8,7 +8,7 @@ pub mod removals; // removals.rt: rows taken out of the places
 pub mod shares; // shares.rt: what the desks hold together
 pub mod sound; // sound.rt: whether a sheet is sound
 
-// `rows` is the table's row count T. Desk k's marks are the four words from 4 k on: table row n is hidden where the word n / 64 of them has the value n % 64.
+// `rows` is the table's row count T. Desk k's marks are `WORDS` words: table row n is hidden where bit n % 64 of their word n / 64 is set.
 // The first `used` places hold the inserted rows, in order of insertion.
 #[repr(C)]
 pub struct Sheet {
@@ -22,7 +22,7 @@ pub struct Sheet {
 }
 
 impl Sheet {
-    // The values that a column may have: the bits of a word.
+    // The values that a column may have.
     pub const VALUES: usize = 64;
     // The rows that a desk may hold, and those that it is promised.
     pub const HELD: usize = 64;
@@ -37,7 +37,7 @@ impl Sheet {
     // The rows that a view may have.
     pub const VIEW: usize = Sheet::ROWS + Sheet::HELD;
     // The words of one desk's marks, and of all desks'.
-    pub const WORDS: usize = Sheet::ROWS / Sheet::VALUES;
+    pub const WORDS: usize = Sheet::ROWS / sets::BITS;
 
     pub const MARKS: usize = Sheet::DESKS * Sheet::WORDS;
 

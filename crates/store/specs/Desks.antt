@@ -4,6 +4,7 @@ use mathlib.Core.Bool.{Bool, not, _&&_}
 use mathlib.Core.List.{List, [], _∷_, _++_}
 use lib.Dec.{leb, ltb}
 use lib.ListN.{length, drop}
+use Rattle.sets.specs.Limits.{mostHeld, promised, mostInView}
 use Rattle.sets.specs.Sets.{within}
 use Rattle.theory.specs.Pairings.{at}
 use Rattle.theory.specs.Kept.{kept}
@@ -32,11 +33,11 @@ hideCases rows hid n = (leb rows n gives NoRow) ∷ (hid n gives HiddenAlready) 
 
 -- 8, 9 and 10: an insert. `full`: used plus owed is 512
 abbrev pub insertCases : ℕ → Bool → ℕ → ℕ → List Case
-insertCases d full held set = (not (within d set) gives BadSet) ∷ (leb 64 held gives Full) ∷ ((leb 8 held && full) gives NoRoom) ∷ []
+insertCases d full held set = (not (within d set) gives BadSet) ∷ (leb mostHeld held gives Full) ∷ ((leb promised held && full) gives NoRoom) ∷ []
 
 -- 11 and 12: DISTINCT. `places`: those of the lent list
 abbrev pub listCases : ℕ → ℕ → List Case
-listCases places many = (ltb places many gives ShortList) ∷ (ltb 320 many gives LongView) ∷ []
+listCases places many = (ltb places many gives ShortList) ∷ (ltb mostInView many gives LongView) ∷ []
 
 -- ---- one desk's call
 

@@ -6,6 +6,7 @@ use mathlib.Core.Bool.{Bool, true, false, cond, _&&_, _||_}
 use mathlib.Core.List.{List, [], _∷_, _++_}
 use lib.Dec.{eqb, leb, ltb}
 use lib.ListN.{length, take, drop}
+use Rattle.sets.specs.Limits.{mostPlaces, mostHeld, promised}
 use Rattle.sets.specs.Sets.{within}
 use Rattle.sheet.specs.declared.Sheet.{Sheet}
 use Rattle.sheet.specs.Upto.{sumTo}
@@ -84,7 +85,7 @@ module _ (tell : Store) where
   usedBy desks past = sumTo (λ k. heldBy k past) desks
 
   abbrev pub owedBy : ℕ → List Turn → ℕ
-  owedBy desks past = sumTo (λ k. 8 - heldBy k past) desks
+  owedBy desks past = sumTo (λ k. promised - heldBy k past) desks
 
 -- 'An insert is proper when its desk exists and 8 doesn't apply.'
 unfoldable pub properCall : ℕ → Call → Bool
@@ -102,13 +103,14 @@ proper d desks t = ltb (t .desk) desks && properCall d (t .call)
 
 pub record Demand3 (d : ℕ) (table : List ℕ) (desks : ℕ) (tell : Store) : Type 0 where
   -- a desk with fewer than eight rows of its own has its next proper insert accepted
-  pub next : (past : List Turn) (t : Turn) → proper d desks t ≡ true → heldBy tell (t .desk) past < 8 → accepted (tell past t .answer) ≡ true
+  pub next : (past : List Turn) (t : Turn) → proper d desks t ≡ true → heldBy tell (t .desk) past < promised → accepted (tell past t .answer) ≡ true
   -- no desk passes 64, and the class never passes 512
-  pub desk-limit : (past : List Turn) (k : ℕ) → heldBy tell k past ≤ 64
-  pub class-limit : (past : List Turn) → usedBy tell desks past ≤ 512
+  pub desk-limit : (past : List Turn) (k : ℕ) → heldBy tell k past ≤ mostHeld
+  pub class-limit : (past : List Turn) → usedBy tell desks past ≤ mostPlaces
   -- refusal 10 is given exactly to a proper insert of a desk with 8 to 63 rows where every free place is owed
   pub no-room : (past : List Turn) (t : Turn) → (numberOf (tell past t .answer) ≡ 10)
-      ↔ ((proper d desks t ≡ true) × (8 ≤ heldBy tell (t .desk) past) × (heldBy tell (t .desk) past < 64) × (usedBy tell desks past + owedBy tell desks past ≡ 512))
+      ↔ ((proper d desks t ≡ true) × (promised ≤ heldBy tell (t .desk) past) × (heldBy tell (t .desk) past < mostHeld)
+      × (usedBy tell desks past + owedBy tell desks past ≡ mostPlaces))
   -- apart from it, what a desk is told is what it would be told alone
   pub as-alone : (past : List Turn) (t : Turn) → numberOf (tell past t .answer) ≢ 10 → tell past t ≡ alone d table desks (history tell (t .desk) past) t
   -- and refusal 10 writes nothing

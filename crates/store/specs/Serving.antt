@@ -16,7 +16,7 @@ use Rattle.refusals.specs.Cases.{decided}
 use Rattle.store.specs.Answers.{accepted}
 use Rattle.store.specs.Desks.{view, serve, listAfter}
 use Rattle.sheet.specs.Surveys.{sheetOf}
-use Rattle.sets.specs.Limits.{mostRows}
+use Rattle.sets.specs.Limits.{mostRows, mostDesks, mostPlaces, mostHeld}
 use Rattle.refusals.specs.TableCases.{tableCases}
 use Rattle.store.specs.Calls.{crowded, answered, changed, sheetAfter, told}
 
@@ -25,7 +25,7 @@ pub record Trusted (d : ℕ) (table : List ℕ) (s : Sheet) (counts : List ℕ) 
   pub table-right : accepted (decided Refused (tableCases mostRows d table) Done) ≡ true
   pub sheet-right : sound s ≡ true
   pub desk-there : k < s .desks
-  pub counted : (j : ℕ) → j < 32 → at counts j ≡ held s j
+  pub counted : (j : ℕ) → j < mostDesks → at counts j ≡ held s j
 
 -- the answer, and the lent list
 pub record Served (d : ℕ) (table : List ℕ) (s : Sheet) (k : ℕ) (c : Call) (old : List ℕ) (r : Answer) (list : List ℕ) : Type 0 where
@@ -34,10 +34,10 @@ pub record Served (d : ℕ) (table : List ℕ) (s : Sheet) (k : ℕ) (c : Call) 
 
 -- what the sheet has room for
 abbrev pub Possible : Sheet → ℕ → Call → Type 0
-Possible s k (Delete (Table n)) = (k < 32) × (n < 256)
-Possible s k (Delete (Own n)) = (s .used ≤ 512) × (n < 64)
-Possible s k (Insert set) = s .used < 512
-Possible s k Reset = (s .used ≤ 512) × (k < 32)
+Possible s k (Delete (Table n)) = (k < mostDesks) × (n < mostRows)
+Possible s k (Delete (Own n)) = (s .used ≤ mostPlaces) × (n < mostHeld)
+Possible s k (Insert set) = s .used < mostPlaces
+Possible s k Reset = (s .used ≤ mostPlaces) × (k < mostDesks)
 Possible s k (Look n) = Unit {0}
 Possible s k Count = Unit {0}
 Possible s k Distinct = Unit {0}

@@ -4,6 +4,7 @@ use mathlib.Core.Path.{_≡_}
 use mathlib.Core.Bool.{Bool}
 use mathlib.Core.List.{List, _++_}
 use lib.ListN.{length, take}
+use Rattle.sets.specs.Limits.{mostInView}
 use Rattle.sheet.specs.Upto.{countTo, those}
 use Rattle.store.specs.Desks.{view}
 
@@ -17,5 +18,5 @@ pub record Filled (f : ℕ → Bool) (from : List ℕ) (n start : ℕ) (old : Li
 pub record Viewed (table : List ℕ) (hid : ℕ → Bool) (own : List ℕ) (n : ℕ) (rows : List ℕ) : Type 0 where
   pub count : n ≡ length (view table hid own)
   pub is : take n rows ≡ view table hid own
-  pub most : n ≤ 320
-  pub long : length rows ≡ 320
+  pub most : n ≤ mostInView
+  pub long : length rows ≡ mostInView

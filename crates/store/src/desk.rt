@@ -2,6 +2,7 @@
 ghost use mathlib.Core.Path.{_≡_};
 ghost use Prim.Native.Nat.{_<_, _≤_};
 ghost use lib.ListN.{length};
+ghost use Rattle.sets.specs.Limits.{mostValues, mostRows, mostDesks, mostInView};
 ghost use Rattle.theory.specs.Pairings.{at};
 ghost use Rattle.theory.specs.Kept.{kept};
 ghost use Rattle.distinct.specs.Steps.{InColumn};
@@ -44,7 +45,7 @@ pub fn known(
 
 // A table row is hidden, of `rows` that the table has.
 fn delete_table(rows: usize, marks: &[u64; Sheet::MARKS], desk: usize, n: usize) -> Answer
-    requires { ⌜ (desk < 32) × (rows ≤ 256) ⌝ }
+    requires { ⌜ (desk < mostDesks) × (rows ≤ mostRows) ⌝ }
     ensures { λ r. ⌜ r ≡ decided Refused (hideCases rows (hides (now (marks .entry)) desk) n) Done ⌝ }
 {
     if rows <= n {
@@ -68,7 +69,7 @@ fn delete_own(held: usize, n: usize) -> Answer
 
 // A row is put in; `full` where every free place is owed.
 fn insert(d: usize, full: bool, held: usize, set: u64) -> Answer
-    requires { ⌜ d ≤ 64 ⌝ }
+    requires { ⌜ d ≤ mostValues ⌝ }
     ensures { λ r. ⌜ r ≡ decided Refused (insertCases d full held set) Done ⌝ }
 {
     if !sets::within(set, d) {
@@ -98,7 +99,7 @@ fn look(rows: &[u64], n: usize) -> Answer
 
 // The kept rows of the view are listed.
 fn list_kept(d: usize, rows: &[u64], list: &mut [usize]) -> Answer
-    requires { ⌜ (length (now rows) ≤ 320) × InColumn d (now rows) ⌝ }
+    requires { ⌜ (length (now rows) ≤ mostInView) × InColumn d (now rows) ⌝ }
     ensures { λ r. ⌜ (r ≡ decided Refused (listCases (length (now (list .entry))) (length (now (rows .entry)))) (Listed (length (kept d (now (rows .entry)))))) × (now (list .exit) ≡ listAfter d (now (rows .entry)) r (now (list .entry))) ⌝ }
 {
     if list.len() < rows.len() {

@@ -3,6 +3,7 @@ ghost use mathlib.Core.Path.{_≡_};
 ghost use mathlib.Core.Bool.{not};
 ghost use Prim.Native.Nat.{_<_, _≤_, _+_};
 ghost use lib.ListN.{length};
+ghost use Rattle.sets.specs.Limits.{mostRows, mostDesks, mostPlaces, mostHeld, mostInView};
 ghost use Rattle.sheet.specs.Upto.{countTo, those};
 ghost use Rattle.sheet.specs.Sheets.{owns, hides};
 ghost use Rattle.store.specs.Views.{Filled, Viewed};
@@ -10,7 +11,7 @@ use sheet::Sheet;
 
 // The table rows that the desk does not hide go to the front of the rows. Answers how many.
 fn put_table(table: &[u64], marks: &[u64; Sheet::MARKS], desk: usize, rows: &mut [u64]) -> usize
-    requires { ⌜ (desk < 32) × (length (now table) ≤ 256) × (length (now rows) ≡ 320) ⌝ }
+    requires { ⌜ (desk < mostDesks) × (length (now table) ≤ mostRows) × (length (now rows) ≡ mostInView) ⌝ }
     ensures { λ r. ⌜ Filled (λ i. not (hides (now (marks .entry)) desk i)) (now (table .entry)) (length (now (table .entry))) 0 (now (rows .entry)) r (now (rows .exit)) ⌝ }
 {
     let mut n: usize = 0;
@@ -35,7 +36,7 @@ fn put_own<'a>(
     start: usize,
     rows: &mut [u64],
 ) -> usize
-    requires { ⌜ (used ≤ 512) × (length (now rows) ≡ 320) × (start + countTo (owns (now owners) desk) used ≤ 320) ⌝ }
+    requires { ⌜ (used ≤ mostPlaces) × (length (now rows) ≡ mostInView) × (start + countTo (owns (now owners) desk) used ≤ mostInView) ⌝ }
     ensures { λ r. ⌜ Filled (owns (now (owners .entry)) desk) (now (sets .entry)) used start (now (rows .entry)) r (now (rows .exit)) ⌝ }
 {
     let mut n = start;
@@ -61,7 +62,8 @@ pub fn gather<'a>(
     owners: &'a [usize; Sheet::PLACES],
     rows: &mut [u64],
 ) -> usize
-    requires { ⌜ (desk < 32) × (length (now table) ≤ 256) × (used ≤ 512) × (countTo (owns (now owners) desk) used ≤ 64) × (length (now rows) ≡ 320) ⌝ }
+    requires { ⌜ (desk < mostDesks) × (length (now table) ≤ mostRows) × (used ≤ mostPlaces) × (countTo (owns (now owners) desk) used ≤ mostHeld)
+        × (length (now rows) ≡ mostInView) ⌝ }
     ensures { λ r. ⌜ Viewed (now (table .entry)) (hides (now (marks .entry)) desk) (those (owns (now (owners .entry)) desk) (now (sets .entry)) used) r (now (rows .exit)) ⌝ }
 {
     let seen = put_table(table, marks, desk, rows);
