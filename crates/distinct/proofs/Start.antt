@@ -8,6 +8,8 @@ use native.Mathlib.Decide.{decLt}
 use native.Mathlib.Omega.{arith}
 use lib.Bits.{bitOr}
 use lib.ListN.{length, replicate, length-replicate}
+use Rattle.sets.specs.Limits.{mostValues}
+use Rattle.pairing.specs.Seats.{seats}
 use Rattle.sets.specs.Sets.{has, within}
 use Rattle.sets.proofs.Bools.{not-both}
 use Rattle.sets.proofs.Values.{has-empty}
@@ -53,11 +55,11 @@ module _ (d : ℕ) (view : List ℕ) (C : InColumn d view) where
   abbrev start : Seats
   start = record { d = d; used = zero; entered = zero; free = 2 ^ d - 1; dead = zero; fresh = 2 ^ d - 1; heavy = zero }
 
-  bench : (columns : List ℕ) → length columns ≡ 64 → ((v : ℕ) → at columns v ≡ zero) → Bench start [] columns []
+  bench : (columns : List ℕ) → length columns ≡ mostValues → ((v : ℕ) → at columns v ≡ zero) → Bench start [] columns []
   bench columns wide none = record {
     used = refl;
     column = C .column;
-    pairing = pairing-nil 64;
+    pairing = pairing-nil mostValues;
     full = size-nil;
     small = λ i v t. absurd (not-both t (has-empty v));
     new = λ v t. (has-all d v t, λ s. suc-ne-zero v (sym (s .1)));
@@ -74,19 +76,19 @@ module _ (d : ℕ) (view : List ℕ) (C : InColumn d view) where
       size-nil : size [] ≡ zero
       size-nil = omega (arith, size-by-rows [])
 
-  pub pairs-start : (ms : List Bool) (rows mates : List ℕ) → length ms ≡ length view → length rows ≡ 64 → length mates ≡ 64 → Pairs view (before zero ms) start rows (replicate 64 zero) mates
+  pub pairs-start : (ms : List Bool) (rows mates : List ℕ) → length ms ≡ length view → length rows ≡ seats → length mates ≡ seats → Pairs view (before zero ms) start rows (replicate mostValues zero) mates
   pairs-start ms rows mates long rows-wide mates-wide = record {
     sits = record {
       rows-wide = rows-wide;
       mates-wide = mates-wide;
       few = omega arith;
-      bench = bench (replicate 64 zero) (length-replicate 64 zero) (at-zeros 64);
+      bench = bench (replicate mostValues zero) (length-replicate mostValues zero) (at-zeros mostValues);
     };
     places = [];
-    stands = record { fits = length-before zero ms ∙ long; apart = tt; marked-all = λ i m. absurd (List·Memᴰ·not-nil m); ranks = ap (rank 64) (pick-none ms view) ∙ none };
+    stands = record { fits = length-before zero ms ∙ long; apart = tt; marked-all = λ i m. absurd (List·Memᴰ·not-nil m); ranks = ap (rank mostValues) (pick-none ms view) ∙ none };
     listed = refl;
     small = below;
   }
     where
-      none : rank 64 [] ≡ zero
-      none = let h = rank-met 64 [] in omega (arith, h .2, size-by-rows (h .0), h .1 .fits)
+      none : rank mostValues [] ≡ zero
+      none = let h = rank-met mostValues [] in omega (arith, h .2, size-by-rows (h .0), h .1 .fits)

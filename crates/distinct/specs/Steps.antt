@@ -10,7 +10,7 @@ use Rattle.theory.specs.Kept.{rowsAt}
 use Rattle.theory.specs.Pairings.{at}
 use Rattle.theory.specs.Search.{Stands}
 use Rattle.pairing.specs.declared.seats.Seats.{Seats}
-use Rattle.pairing.specs.Seats.{Below, Sitting}
+use Rattle.pairing.specs.Seats.{Below, Sitting, seats}
 
 -- the rows are those of a column with d values
 pub record InColumn (d : ℕ) (rows : List ℕ) : Type 0 where
@@ -20,7 +20,7 @@ pub record InColumn (d : ℕ) (rows : List ℕ) : Type 0 where
 -- places for each row of the view, and for a seat of each value
 pub record Places (view places : List ℕ) : Type 0 where
   pub rows : length view ≤ length places
-  pub seats : mostValues ≤ length places
+  pub seats : seats ≤ length places
 
 -- the marks before place n, and none from there on
 unfoldable pub before : ℕ → List Bool → List Bool
@@ -32,6 +32,6 @@ before (suc n) (m ∷ ms) = m ∷ before n ms
 pub record Pairs (view : List ℕ) (ms : List Bool) (s : Seats) (rows columns mates : List ℕ) : Type 0 where
   pub sits : Sitting s rows columns mates
   pub places : List ℕ
-  pub stands : Stands 64 view ms places
+  pub stands : Stands mostValues view ms places
   pub listed : take (s .used) rows ≡ rowsAt view places
   pub small : (i : ℕ) → Below (s .d) (at view i)

@@ -10,6 +10,7 @@ use refusals::Refusal;
 use refusals::tables;
 use refusals::tables::Judged;
 use sheet::Sheet;
+use steps::SEATS;
 
 mod steps; // steps.rt: the two steps, on marks
 mod list; // list.rt: the positions of marks into a lent list
@@ -38,10 +39,10 @@ pub fn distinct(d: usize, view: &[u64], list: &mut [usize]) -> usize
     ensures { λ r. ⌜ (r ≡ length (kept d (now (view .entry)))) × (now (list .exit) ≡ kept d (now (view .entry)) ++ drop r (now (list .entry))) ⌝ }
 {
     let n = view.len();
-    if n <= Sheet::VALUES {
-        let mut keep = [false; Sheet::VALUES];
-        let mut rows = [0u64; Sheet::VALUES];
-        let mut mates = [0usize; Sheet::VALUES];
+    if n <= SEATS {
+        let mut keep = [false; SEATS];
+        let mut rows = [0u64; SEATS];
+        let mut mates = [0usize; SEATS];
         return distinct_on(d, view, &mut keep[..n], &mut rows, &mut mates, list);
     }
     let mut keep = [false; Sheet::VIEW];

@@ -2,11 +2,16 @@
 ghost use mathlib.Core.Path.{_≡_};
 ghost use Prim.Native.Nat.{_≤_};
 ghost use lib.ListN.{length, replicate};
+ghost use Rattle.sets.specs.Limits.{mostValues, mostInView};
 ghost use Rattle.theory.specs.Kept.{marks, tries};
 ghost use Rattle.minimal.specs.Marking.{NoMarks};
+ghost use Rattle.pairing.specs.Seats.{seats};
 ghost use Rattle.distinct.specs.Steps.{InColumn, Places};
 use pairing::seats::Seats;
 use sheet::Sheet;
+
+// A row that has a mate sits on a seat, and there are no more mates than values.
+pub const SEATS: usize = Sheet::VALUES;
 
 // The second step: the marked rows get seats, a largest pairing of them; then the others are tried, and one is kept where it gets a seat.
 // It is one function because seats that go from one to another are copied, which a small view would feel.
@@ -19,8 +24,8 @@ fn second_step(
     mates: &mut [usize],
 )
     requires { ⌜ (length (now keep) ≡ length (now view)) × InColumn d (now view) ⌝ }
-    requires { ⌜ (length (now rows) ≡ 64) × (now columns ≡ replicate 64 0) × (length (now mates) ≡ 64) ⌝ }
-    ensures { λ _. ⌜ now (keep .exit) ≡ tries 64 (now (view .entry)) (length (now (view .entry))) 0 (now (keep .entry)) ⌝ }
+    requires { ⌜ (length (now rows) ≡ seats) × (now columns ≡ replicate mostValues 0) × (length (now mates) ≡ seats) ⌝ }
+    ensures { λ _. ⌜ now (keep .exit) ≡ tries mostValues (now (view .entry)) (length (now (view .entry))) 0 (now (keep .entry)) ⌝ }
 {
     let all = sets::all(d);
     let mut seats = Seats {
@@ -71,7 +76,7 @@ fn second_step(
 
 // The rows that DISTINCT keeps are marked. `rows` and `mates` are scratch places in the first step, and so need not be made ready for the second.
 pub fn settle(d: usize, view: &[u64], keep: &mut [bool], rows: &mut [u64], mates: &mut [usize])
-    requires { ⌜ (length (now view) ≤ 320) × (length (now keep) ≡ length (now view)) × NoMarks (now keep) × InColumn d (now view) ⌝ }
+    requires { ⌜ (length (now view) ≤ mostInView) × (length (now keep) ≡ length (now view)) × NoMarks (now keep) × InColumn d (now view) ⌝ }
     requires { ⌜ Places (now view) (now rows) × Places (now view) (now mates) ⌝ }
     ensures { λ _. ⌜ now (keep .exit) ≡ marks d (now (view .entry)) ⌝ }
 {
@@ -81,8 +86,8 @@ pub fn settle(d: usize, view: &[u64], keep: &mut [bool], rows: &mut [u64], mates
         d,
         view,
         keep,
-        &mut rows[..Sheet::VALUES],
+        &mut rows[..SEATS],
         &mut columns,
-        &mut mates[..Sheet::VALUES],
+        &mut mates[..SEATS],
     );
 }

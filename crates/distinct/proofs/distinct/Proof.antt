@@ -3,6 +3,7 @@ use mathlib.Core.Path.{sym}
 use native.Mathlib.Omega.{arith}
 use lib.ListN.{length}
 use lib.Seq.{length-take-le}
+use Rattle.sets.specs.Limits.{mostValues, mostInView}
 use Rattle.distinct.proofs.Asking.{no-marks}
 use borrow.Author.Needs.{needs}
 use Rattle.distinct.proofs.distinct.Statement.{statement}
@@ -27,7 +28,7 @@ distinct-on-requires : tie.Need-distinct-on-requires
 distinct-on-requires c κs =
     let e = c .before .before .before .before .before .before .before in
     let h = c .before .before .before .before .if1 .taken in
-    ((e .pre, length-take-le _ _ h, no-marks 64 (length (e .args .view .now))), (record { rows = h; seats = omega arith }, record { rows = h; seats = omega arith }))
+    ((e .pre, length-take-le _ _ h, no-marks mostValues (length (e .args .view .now))), (record { rows = h; seats = omega arith }, record { rows = h; seats = omega arith }))
 
 same-length : tie.Need-same-length
 same-length c = search needs
@@ -51,7 +52,7 @@ distinct-on-requires-2 : tie.Need-distinct-on-requires-2
 distinct-on-requires-2 c κs =
     let e = c .before .before .before .before .before .before .before in
     let h = e .pre .few in
-    ((e .pre, length-take-le _ _ h, no-marks 320 (length (e .args .view .now))), (record { rows = h; seats = omega arith }, record { rows = h; seats = omega arith }))
+    ((e .pre, length-take-le _ _ h, no-marks mostInView (length (e .args .view .now))), (record { rows = h; seats = omega arith }, record { rows = h; seats = omega arith }))
 
 same-length-2 : tie.Need-same-length-2
 same-length-2 c = search needs

@@ -8,6 +8,7 @@ use native.Mathlib.Omega.{arith}
 use borrow.Author.Needs.{needs}
 use borrow.Author.Tests.{not-true, not-false}
 use lib.ListN.{length, set, replicate}
+use Rattle.sets.specs.Limits.{mostValues}
 use Rattle.theory.specs.Kept.{tries}
 use Rattle.theory.specs.Pairings.{at}
 use Rattle.theory.proofs.NextRow.{tries-none, try-marked}
@@ -32,7 +33,7 @@ abbrev μ-loop : tie.MeasureT-loop
 μ-loop d view keep rows₀ columns₀ mates₀ all seats₀ next₀ rows columns mates seats next = length view - next
 
 abbrev Inv-loop2 : tie.InvT-loop2
-Inv-loop2 d view keep₀ rows₀ columns₀ mates₀ all seats₀ next tried₀ keep rows columns mates seats tried = (tried ≤ length view) × Pairs view keep seats rows columns mates × (keep ≡ tries 64 view tried 0 keep₀)
+Inv-loop2 d view keep₀ rows₀ columns₀ mates₀ all seats₀ next tried₀ keep rows columns mates seats tried = (tried ≤ length view) × Pairs view keep seats rows columns mates × (keep ≡ tries mostValues view tried 0 keep₀)
 
 abbrev μ-loop2 : tie.MeasureT-loop2
 μ-loop2 d view keep₀ rows₀ columns₀ mates₀ all seats₀ next tried₀ keep rows columns mates seats tried = length view - tried
@@ -45,7 +46,7 @@ loop-holds c =
     let e = c .before .before .before .before .before .before in (
       omega arith,
       subst (λ (columns : List ℕ). Pairs (e .args .view .now) (before 0 (e .args .keep .now)) (record { d = e .args .d; used = 0; entered = 0; free = c .all .result; dead = 0; fresh = c .all .result; heavy = 0 }) (e .args .rows .now) columns (e .args .mates .now)) (sym (e .pre .1 .1))
-          (subst (λ (all : ℕ). Pairs (e .args .view .now) (before 0 (e .args .keep .now)) (record { d = e .args .d; used = 0; entered = 0; free = all; dead = 0; fresh = all; heavy = 0 }) (e .args .rows .now) (replicate 64 0) (e .args .mates .now)) (sym (c .all .ensures))
+          (subst (λ (all : ℕ). Pairs (e .args .view .now) (before 0 (e .args .keep .now)) (record { d = e .args .d; used = 0; entered = 0; free = all; dead = 0; fresh = all; heavy = 0 }) (e .args .rows .now) (replicate mostValues 0) (e .args .mates .now)) (sym (c .all .ensures))
           (pairs-start (e .args .d) (e .args .view .now) (e .pre .0 .1) (e .args .keep .now) (e .args .rows .now) (e .args .mates .now) (e .pre .0 .0) (e .pre .1 .0) (e .pre .1 .2))),
     )
 
@@ -134,7 +135,7 @@ loop2-holds c =
     let l = c .before .loop in (
       omega arith,
       subst (λ (ms : List Bool). Pairs (e .args .view .now) ms (l .seats) (l .rows) (l .columns) (l .mates)) (before-all (l .next) (e .args .keep .now) (omega (arith, e .pre .0 .0, c .loop-test .left))) (l .inv .1),
-      tries-none 64 (e .args .view .now) 0 (e .args .keep .now),
+      tries-none mostValues (e .args .view .now) 0 (e .args .keep .now),
     )
 
 add-tried : tie.Need-add-tried Inv-loop μ-loop Inv-loop2 μ-loop2
@@ -223,7 +224,7 @@ loop2-again-5 : tie.Need-loop2-again-5 Inv-loop μ-loop Inv-loop2 μ-loop2
 loop2-again-5 c =
     let e = c .before .before .before .before .before .before .before .before .before .before .before .before in
     let l = c .before .before .before .loop2 in
-    (omega arith, l .inv .1, tried-more (e .args .view .now) (e .args .keep .now) (l .keep) (l .tried) (l .keep) (l .inv .2) (try-marked 64 (e .args .view .now) (l .keep) (l .tried) (not-false _ (c .if4 .left))))
+    (omega arith, l .inv .1, tried-more (e .args .view .now) (e .args .keep .now) (l .keep) (l .tried) (l .keep) (l .inv .2) (try-marked mostValues (e .args .view .now) (l .keep) (l .tried) (not-false _ (c .if4 .left))))
 
 same-length : tie.Need-same-length Inv-loop μ-loop Inv-loop2 μ-loop2
 same-length c =
@@ -254,7 +255,7 @@ returns c =
     let e = c .before .before .before .before .before .before .before .before .before .before in
     let l = c .before .loop2 in
     let all : l .tried ≡ length (e .args .view .now) = omega (arith, c .loop2-test .left) in
-    l .inv .2 ∙ ap (λ (n : ℕ). tries 64 (e .args .view .now) n 0 (e .args .keep .now)) all
+    l .inv .2 ∙ ap (λ (n : ℕ). tries mostValues (e .args .view .now) n 0 (e .args .keep .now)) all
 
 pub second-step-spec : {M : Type 1} → statement M
 second-step-spec =

@@ -1,8 +1,9 @@
--- `settle` meets its contract: the steps work with 64 values, and a column with fewer keeps the same rows. Assumes nothing.
+-- `settle` meets its contract: the steps work with as many values as there may be, and a column with fewer keeps the same rows. Assumes nothing.
 use mathlib.Core.Path.{refl, sym, ap, _∙_}
 use native.Mathlib.Omega.{arith}
 use lib.ListN.{length}
 use lib.Seq.{length-take-le}
+use Rattle.sets.specs.Limits.{mostValues}
 use Rattle.theory.specs.Kept.{tries, marks}
 use Rattle.theory.proofs.KeptAnyD.{marks-any}
 use Rattle.distinct.proofs.Start.{column-rows, none-empty}
@@ -26,7 +27,7 @@ slice-aggregate-second-step : tie.Need-slice-aggregate-second-step
 slice-aggregate-second-step c =
     let e = c .before .before .before .before .before .before .before .before .before .before .before .before .before .before .before .before in
     let m = c .before .before .before .before .before .before .before .before .mark-minimal in
-    sym (length-take-le 64 (m .last .1 .1 .1 .0) (omega (arith, m .kept .1 .1 .1 .0, e .pre .1 .0 .seats)))
+    sym (length-take-le mostValues (m .last .1 .1 .1 .0) (omega (arith, m .kept .1 .1 .1 .0, e .pre .1 .0 .seats)))
 
 slice-aggregate-second-step-2 : tie.Need-slice-aggregate-second-step-2
 slice-aggregate-second-step-2 c = search needs
@@ -38,7 +39,7 @@ slice-aggregate-second-step-3 : tie.Need-slice-aggregate-second-step-3
 slice-aggregate-second-step-3 c =
     let e = c .before .before .before .before .before .before .before .before .before .before .before .before .before .before .before .before .before .before in
     let m = c .before .before .before .before .before .before .before .before .before .before .mark-minimal in
-    sym (length-take-le 64 (m .last .1 .1 .0) (omega (arith, m .kept .1 .1 .0, e .pre .1 .1 .seats)))
+    sym (length-take-le mostValues (m .last .1 .1 .0) (omega (arith, m .kept .1 .1 .0, e .pre .1 .1 .seats)))
 
 second-step-requires : tie.Need-second-step-requires
 second-step-requires c κs =
@@ -46,9 +47,9 @@ second-step-requires c κs =
     let m = c .before .before .before .before .before .before .before .before .before .before .mark-minimal in (
       (m .kept .1 .0 ∙ e .pre .0 .1, e .pre .0 .3),
       (
-        length-take-le 64 (m .last .1 .1 .1 .0) (omega (arith, m .kept .1 .1 .1 .0, e .pre .1 .0 .seats)),
+        length-take-le mostValues (m .last .1 .1 .1 .0) (omega (arith, m .kept .1 .1 .1 .0, e .pre .1 .0 .seats)),
         refl,
-        length-take-le 64 (m .last .1 .1 .0) (omega (arith, m .kept .1 .1 .0, e .pre .1 .1 .seats)),
+        length-take-le mostValues (m .last .1 .1 .0) (omega (arith, m .kept .1 .1 .0, e .pre .1 .1 .seats)),
       ),
     )
 
@@ -65,8 +66,8 @@ returns : tie.Need-returns
 unfolding marks
 returns c =
     let e = c .before .before .before .before .before .before .before .before .before .before .before .before .before .before .before .before .before .before .before .before .before .before .before .before .before .before in
-    c .before .before .before .before .before .before .before .second-step .ensures ∙ ap (tries 64 (e .args .view .now) (length (e .args .view .now)) 0) (c .before .before .before .before .before .before .before .before .before .before .before .before .before .before .before .before .before .before .mark-minimal .ensures)
-    ∙ sym (marks-any (e .args .d) 64 (e .pre .0 .3 .column) (e .args .view .now) (column-rows (e .args .d) (e .args .view .now) (e .pre .0 .3)))
+    c .before .before .before .before .before .before .before .second-step .ensures ∙ ap (tries mostValues (e .args .view .now) (length (e .args .view .now)) 0) (c .before .before .before .before .before .before .before .before .before .before .before .before .before .before .before .before .before .before .mark-minimal .ensures)
+    ∙ sym (marks-any (e .args .d) mostValues (e .pre .0 .3 .column) (e .args .view .now) (column-rows (e .args .d) (e .args .view .now) (e .pre .0 .3)))
 
 pub settle-spec : {M : Type 1} → statement M
 settle-spec =
