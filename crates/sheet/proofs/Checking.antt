@@ -8,7 +8,7 @@ use lib.Dec.{leb}
 use lib.ListN.{length}
 use borrow.Author.Tests.{le-leb, lt-leb, leb-true}
 use Rattle.sets.proofs.Bools.{and-left, and-right}
-use Rattle.sets.specs.Limits.{mostDesks, mostPlaces, mostHeld, promised}
+use Rattle.sets.specs.Limits.{mostDesks, mostPlaces, mostHeld, promised, mostRows, mostValues}
 use Rattle.theory.specs.Pairings.{at}
 use Rattle.sheet.specs.declared.Sheet.{Sheet}
 use Rattle.sheet.specs.Upto.{allTo, sumTo}
@@ -35,9 +35,9 @@ marks-same s = refl
 pub shape-few : (s : Sheet) → shaped s ≡ true → (s .used ≤ mostPlaces) × (s .desks ≤ mostDesks)
 unfolding shaped
 shape-few s e =
-    let numbers = leb 1 (s .d) && leb (s .d) 64 && leb (s .rows) 256 && leb 1 (s .desks) in
-    let desks = and-left (numbers && leb (s .desks) 32) (leb (s .used) 512) e in
-    (leb-true (s .used) 512 (and-right (numbers && leb (s .desks) 32) (leb (s .used) 512) e), leb-true (s .desks) 32 (and-right numbers (leb (s .desks) 32) desks))
+    let numbers = leb 1 (s .d) && leb (s .d) mostValues && leb (s .rows) mostRows && leb 1 (s .desks) in
+    let desks = and-left (numbers && leb (s .desks) mostDesks) (leb (s .used) mostPlaces) e in
+    (leb-true (s .used) mostPlaces (and-right (numbers && leb (s .desks) mostDesks) (leb (s .used) mostPlaces) e), leb-true (s .desks) mostDesks (and-right numbers (leb (s .desks) mostDesks) desks))
 
 -- ---- the tests in turn
 

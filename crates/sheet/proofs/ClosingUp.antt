@@ -10,6 +10,7 @@ use lib.Dec.{leb, ltb}
 use lib.ListN.{length, replicate, take, drop, length-append, length-replicate, drop-of-length-le, List·getD-append}
 use lib.Seq.{getD-at, take-all, take-nil, drop-nil, take-append-le, drop-append-le}
 use borrow.Author.Tests.{leb-true, leb-false, ltb-true, ltb-false}
+use Rattle.sets.specs.Limits.{mostPlaces}
 use Rattle.theory.specs.Pairings.{at}
 use Rattle.sets.proofs.Bools.{true-or-false}
 use Rattle.sheet.specs.Upto.{countTo, those}
@@ -31,9 +32,9 @@ at-then-zeros (x ∷ l) n (suc i) = at-then-zeros l n i
 -- 0 is what is read past the end
 pub at-padded : (l : List ℕ) (i : ℕ) → at (padded l) i ≡ at l i
 unfolding padded
-at-padded l i = at-then-zeros l (512 - length l) i
+at-padded l i = at-then-zeros l (mostPlaces - length l) i
 
-pub length-padded : (l : List ℕ) → length l ≤ 512 → length (padded l) ≡ 512
+pub length-padded : (l : List ℕ) → length l ≤ mostPlaces → length (padded l) ≡ mostPlaces
 unfolding padded
 length-padded l h = simp (length-append, length-replicate) (omega arith)
 

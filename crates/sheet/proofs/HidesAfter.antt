@@ -9,46 +9,47 @@ use native.Mathlib.Omega.{arith}
 use lib.Bits.{bitOr}
 use lib.ListN.{length, set, length-set}
 use borrow.Author.Tests.{ne-eqb}
+use Rattle.sets.specs.Limits.{mostDesks, mostRows, wordBits}
 use Rattle.theory.specs.Pairings.{at}
 use Rattle.theory.proofs.Places.{at-same, at-other}
 use Rattle.sets.specs.Sets.{has, single}
 use Rattle.sets.proofs.Values.{has-or, has-single, has-empty, with-new}
 use Rattle.sheet.specs.declared.Sheet.{Sheet}
-use Rattle.sheet.specs.Sheets.{Whole, word, hides}
+use Rattle.sheet.specs.Sheets.{Whole, word, hides, markWords, allMarks}
 use Rattle.sheet.specs.Changes.{hide, hiding, wiped, showing}
 
 -- ---- a row is hidden
 
 pub length-hide : (marks : List ℕ) (k n : ℕ) → length (hide marks k n) ≡ length marks
 unfolding hide
-length-hide marks k n = length-set marks (word k n) (bitOr (at marks (word k n)) (single (n % 64)))
+length-hide marks k n = length-set marks (word k n) (bitOr (at marks (word k n)) (single (n % wordBits)))
 
 -- another value of a set that gets one more
 with-other : (a v u : ℕ) → v ≢ u → has (bitOr a (single v)) u ≡ has a u
 with-other a v u ne = has-or a (single v) u ∙ ap (λ (b : Bool). has a u || b) (has-single v u ∙ ne-eqb v u ne) ∙ or-false (has a u)
 
-module _ (marks : List ℕ) (k n : ℕ) (long : length marks ≡ 128) (hk : k < 32) (hn : n < 256) where
-  there : at (hide marks k n) (word k n) ≡ bitOr (at marks (word k n)) (single (n % 64))
+module _ (marks : List ℕ) (k n : ℕ) (long : length marks ≡ allMarks) (hk : k < mostDesks) (hn : n < mostRows) where
+  there : at (hide marks k n) (word k n) ≡ bitOr (at marks (word k n)) (single (n % wordBits))
   unfolding hide
-  there = at-same marks (word k n) (bitOr (at marks (word k n)) (single (n % 64))) (omega arith)
+  there = at-same marks (word k n) (bitOr (at marks (word k n)) (single (n % wordBits))) (omega arith)
 
   pub hides-same : hides (hide marks k n) k n ≡ true
   unfolding hides
-  hides-same = ap (λ (x : ℕ). has x (n % 64)) there ∙ with-new (at marks (word k n)) (n % 64)
+  hides-same = ap (λ (x : ℕ). has x (n % wordBits)) there ∙ with-new (at marks (word k n)) (n % wordBits)
 
   -- in one word, two marks stand at different values
-  apart : (j m : ℕ) → m < 256 → (j ≢ k) ⊎ (m ≢ n) → word j m ≡ word k n → n % 64 ≢ m % 64
+  apart : (j m : ℕ) → m < mostRows → (j ≢ k) ⊎ (m ≢ n) → word j m ≡ word k n → n % wordBits ≢ m % wordBits
   apart j m hm (inl ne) e q = ne (omega arith)
   apart j m hm (inr ne) e q = ne (omega arith)
 
   -- other desks, and other rows of this desk
-  pub hides-other : (j m : ℕ) → m < 256 → (j ≢ k) ⊎ (m ≢ n) → hides (hide marks k n) j m ≡ hides marks j m
+  pub hides-other : (j m : ℕ) → m < mostRows → (j ≢ k) ⊎ (m ≢ n) → hides (hide marks k n) j m ≡ hides marks j m
   unfolding hides hide
   hides-other j m hm ne = elim (ℕ-discrete (word j m) (word k n)) [
     | yes e ↦
         rw e
-        (ap (λ (x : ℕ). has x (m % 64)) there ∙ with-other (at marks (word k n)) (n % 64) (m % 64) (apart j m hm ne e))
-    | no away ↦ ap (λ (x : ℕ). has x (m % 64)) (at-other marks (word k n) (bitOr (at marks (word k n)) (single (n % 64))) (word j m) away)
+        (ap (λ (x : ℕ). has x (m % wordBits)) there ∙ with-other (at marks (word k n)) (n % wordBits) (m % wordBits) (apart j m hm ne e))
+    | no away ↦ ap (λ (x : ℕ). has x (m % wordBits)) (at-other marks (word k n) (bitOr (at marks (word k n)) (single (n % wordBits))) (word j m) away)
   ]
 
 -- ---- words are wiped
@@ -79,17 +80,17 @@ at-unwiped marks first (suc n) i (inr h) = at-other (wiped marks first n) (first
 
 -- ---- a desk's marks are taken off
 
-module _ (marks : List ℕ) (k m : ℕ) (hm : m < 256) where
-  pub wiped-same : hides (wiped marks (k * 4) 4) k m ≡ false
+module _ (marks : List ℕ) (k m : ℕ) (hm : m < mostRows) where
+  pub wiped-same : hides (wiped marks (k * markWords) markWords) k m ≡ false
   unfolding hides
-  wiped-same = ap (λ (x : ℕ). has x (m % 64)) (at-wiped marks (k * 4) 4 (word k m) (omega arith) (omega arith)) ∙ has-empty (m % 64)
+  wiped-same = ap (λ (x : ℕ). has x (m % wordBits)) (at-wiped marks (k * markWords) markWords (word k m) (omega arith) (omega arith)) ∙ has-empty (m % wordBits)
 
-  outside : (j : ℕ) → j ≢ k → (word j m < k * 4) ⊎ (k * 4 + 4 ≤ word j m)
+  outside : (j : ℕ) → j ≢ k → (word j m < k * markWords) ⊎ (k * markWords + markWords ≤ word j m)
   outside j ne = elim (decLt j k) [ yes l ↦ inl (omega arith) | no l ↦ inr (omega arith) ]
 
-  pub wiped-other : (j : ℕ) → j ≢ k → hides (wiped marks (k * 4) 4) j m ≡ hides marks j m
+  pub wiped-other : (j : ℕ) → j ≢ k → hides (wiped marks (k * markWords) markWords) j m ≡ hides marks j m
   unfolding hides
-  wiped-other j ne = ap (λ (x : ℕ). has x (m % 64)) (at-unwiped marks (k * 4) 4 (word j m) (outside j ne))
+  wiped-other j ne = ap (λ (x : ℕ). has x (m % wordBits)) (at-unwiped marks (k * markWords) markWords (word j m) (outside j ne))
 
 -- ---- the sheet stays whole
 
@@ -99,4 +100,4 @@ whole-hiding {s} k n w =
 
 pub whole-showing : {s : Sheet} (k : ℕ) → Whole s → Whole (showing s k)
 whole-showing {s} k w =
-    record { marks-long = length-wiped (s .marks) (k * 4) 4 ∙ w .marks-long; sets-long = w .sets-long; owners-long = w .owners-long }
+    record { marks-long = length-wiped (s .marks) (k * markWords) markWords ∙ w .marks-long; sets-long = w .sets-long; owners-long = w .owners-long }

@@ -8,6 +8,7 @@ use native.Mathlib.Decide.{decLt}
 use native.Mathlib.Omega.{arith}
 use lib.Dec.{ltb}
 use borrow.Author.Tests.{lt-ltb, le-ltb}
+use Rattle.sets.specs.Limits.{mostDesks, mostRows, wordBits}
 use Rattle.sets.specs.Sets.{has, subset, minus}
 use Rattle.sets.proofs.Bools.{and-both, or-left, or-right, true-or-false, not-both}
 use Rattle.sets.proofs.Values.{has-empty, minus-none, minus-out}
@@ -15,7 +16,7 @@ use Rattle.sets.proofs.Subsets.{subset-has, has-subset}
 use Rattle.sets.proofs.ValuesBelow.{has-all, all-has, has-less, some-value}
 use Rattle.theory.specs.Pairings.{at}
 use Rattle.sheet.specs.Upto.{allTo}
-use Rattle.sheet.specs.Sheets.{hides, markedRight}
+use Rattle.sheet.specs.Sheets.{hides, markedRight, markWords, allMarks}
 use Rattle.sheet.specs.Surveys.{marksOf, MayHide}
 use Rattle.sheet.proofs.UptoLaws.{all-fails, all-intro, top-or-below}
 
@@ -23,12 +24,12 @@ use Rattle.sheet.proofs.UptoLaws.{all-fails, all-intro, top-or-below}
 
 module _ (desks rows w r : ℕ) where
   -- none, where there is no such desk or T is not above the word's first row
-  pub may-none : r ≡ zero → ((v : ℕ) → w / 4 < desks → w % 4 * 64 + v < rows → ⊥) → MayHide desks rows w r
+  pub may-none : r ≡ zero → ((v : ℕ) → w / markWords < desks → w % markWords * wordBits + v < rows → ⊥) → MayHide desks rows w r
   may-none z no-row =
       record { only = λ v h. absurd (not-both h (ap (λ (x : ℕ). has x v) z ∙ has-empty v)); all = λ v _ k l. absurd (no-row v k l) }
 
   -- the first n, up to T
-  pub may-first : (n : ℕ) → r ≡ 2 ^ n - 1 → w / 4 < desks → w % 4 * 64 + n ≤ rows → ((v : ℕ) → v < 64 → w % 4 * 64 + v < rows → v < n) → MayHide desks rows w r
+  pub may-first : (n : ℕ) → r ≡ 2 ^ n - 1 → w / markWords < desks → w % markWords * wordBits + n ≤ rows → ((v : ℕ) → v < wordBits → w % markWords * wordBits + v < rows → v < n) → MayHide desks rows w r
   may-first n e k l full =
       record {
         only = λ v h. let b : v < n = has-all n v (ap (λ (x : ℕ). has x v) (sym e) ∙ h) in (k, omega arith);
@@ -39,7 +40,7 @@ module _ (desks rows w r : ℕ) where
 
 -- every word before the next has only rows that it may have
 pub record Marked (desks rows : ℕ) (marks : List ℕ) (next : ℕ) : Type 0 where
-  pub before : (w : ℕ) → w < next → (v : ℕ) → has (at marks w) v ≡ true → (w / 4 < desks) × (w % 4 * 64 + v < rows)
+  pub before : (w : ℕ) → w < next → (v : ℕ) → has (at marks w) v ≡ true → (w / markWords < desks) × (w % markWords * wordBits + v < rows)
 
 -- the test of row n of desk k
 abbrev allowed : ℕ → ℕ → List ℕ → ℕ → ℕ → Bool
@@ -50,10 +51,10 @@ module _ (desks rows : ℕ) (marks : List ℕ) where
   marked-start = record { before = λ w h. absurd (omega arith) }
 
   -- a word with a row that it may not have
-  pub marked-wrong : (w r : ℕ) → w < 128 → at marks w < 2 ^ 64 → MayHide desks rows w r → subset (at marks w) r ≡ false → false ≡ markedRight (marksOf desks rows marks)
+  pub marked-wrong : (w r : ℕ) → w < allMarks → at marks w < 2 ^ wordBits → MayHide desks rows w r → subset (at marks w) r ≡ false → false ≡ markedRight (marksOf desks rows marks)
   unfolding markedRight hides
   marked-wrong w r h small may e =
-      sym (all-fails (λ k. allTo (allowed desks rows marks k) 256) 32 (w / 4) (omega arith) (all-fails (allowed desks rows marks (w / 4)) 256 n (omega (arith, low)) (rw (hid, out) refl)))
+      sym (all-fails (λ k. allTo (allowed desks rows marks k) mostRows) mostDesks (w / markWords) (omega arith) (all-fails (allowed desks rows marks (w / markWords)) mostRows n (omega (arith, low)) (rw (hid, out) refl)))
     where
       found : (v : ℕ) × (has (minus (at marks w) r) v ≡ true)
       found = some-value (minus (at marks w) r) (λ z. not-both (has-subset (at marks w) r (minus-none (at marks w) r z)) e)
@@ -64,19 +65,19 @@ module _ (desks rows : ℕ) (marks : List ℕ) where
       there : (has (at marks w) v ≡ true) × (has r v ≡ false)
       there = minus-out (at marks w) r v (found .1)
 
-      low : v < 64
-      low = has-less 64 (at marks w) v small (there .0)
+      low : v < wordBits
+      low = has-less wordBits (at marks w) v small (there .0)
 
       n : ℕ
-      n = w % 4 * 64 + v
+      n = w % markWords * wordBits + v
 
-      hid : has (at marks (w / 4 * 4 + n / 64)) (n % 64) ≡ true
-      hid = ap (λ (x : ℕ). has (at marks x) (n % 64)) (omega (arith, low)) ∙ ap (has (at marks w)) (omega (arith, low)) ∙ there .0
+      hid : has (at marks (w / markWords * markWords + n / wordBits)) (n % wordBits) ≡ true
+      hid = ap (λ (x : ℕ). has (at marks x) (n % wordBits)) (omega (arith, low)) ∙ ap (has (at marks w)) (omega (arith, low)) ∙ there .0
 
-      out : (ltb (w / 4) desks && ltb n rows) ≡ false
-      out = elim (decLt (w / 4) desks) [
-        | no far ↦ rw (le-ltb (w / 4) desks (omega (arith, far))) refl
-        | yes k ↦ rw (lt-ltb (w / 4) desks k) (le-ltb n rows (elim (decLt n rows) [
+      out : (ltb (w / markWords) desks && ltb n rows) ≡ false
+      out = elim (decLt (w / markWords) desks) [
+        | no far ↦ rw (le-ltb (w / markWords) desks (omega (arith, far))) refl
+        | yes k ↦ rw (lt-ltb (w / markWords) desks k) (le-ltb n rows (elim (decLt n rows) [
           | no far ↦ omega (arith, far)
           | yes l ↦ absurd (not-both (may .all v low k l) (there .1))
         ]))
@@ -86,18 +87,18 @@ module _ {desks rows : ℕ} {marks : List ℕ} {next : ℕ} (m : Marked desks ro
   pub marked-more : (r : ℕ) → MayHide desks rows next r → subset (at marks next) r ≡ true → Marked desks rows marks (suc next)
   marked-more r may e = record { before = before }
     where
-      before : (w : ℕ) → w < suc next → (v : ℕ) → has (at marks w) v ≡ true → (w / 4 < desks) × (w % 4 * 64 + v < rows)
+      before : (w : ℕ) → w < suc next → (v : ℕ) → has (at marks w) v ≡ true → (w / markWords < desks) × (w % markWords * wordBits + v < rows)
       before w h v t = elim (top-or-below next w h) [
-        | inl q ↦ subst (λ (x : ℕ). (x / 4 < desks) × (x % 4 * 64 + v < rows)) (sym q) (may .only v (subset-has (at marks next) r e v (ap (λ (x : ℕ). has (at marks x) v) (sym q) ∙ t)))
+        | inl q ↦ subst (λ (x : ℕ). (x / markWords < desks) × (x % markWords * wordBits + v < rows)) (sym q) (may .only v (subset-has (at marks next) r e v (ap (λ (x : ℕ). has (at marks x) v) (sym q) ∙ t)))
         | inr l ↦ m .before w l v t
       ]
 
-  pub marked-all : 128 ≤ next → true ≡ markedRight (marksOf desks rows marks)
+  pub marked-all : allMarks ≤ next → true ≡ markedRight (marksOf desks rows marks)
   unfolding markedRight hides
-  marked-all h = sym (all-intro (λ k. allTo (allowed desks rows marks k) 256) 32 (λ k kl. all-intro (allowed desks rows marks k) 256 (λ n nl. one k kl n nl (true-or-false (hides marks k n)))))
+  marked-all h = sym (all-intro (λ k. allTo (allowed desks rows marks k) mostRows) mostDesks (λ k kl. all-intro (allowed desks rows marks k) mostRows (λ n nl. one k kl n nl (true-or-false (hides marks k n)))))
     where
-      one : (k : ℕ) → k < 32 → (n : ℕ) → n < 256 → (hides marks k n ≡ true) ⊎ (hides marks k n ≡ false) → allowed desks rows marks k n ≡ true
+      one : (k : ℕ) → k < mostDesks → (n : ℕ) → n < mostRows → (hides marks k n ≡ true) ⊎ (hides marks k n ≡ false) → allowed desks rows marks k n ≡ true
       one k kl n nl (inr f) = or-left (not (hides marks k n)) (ltb k desks && ltb n rows) (ap not f)
       one k kl n nl (inl t) =
-          let ok = m .before (k * 4 + n / 64) (omega arith) (n % 64) t in
+          let ok = m .before (k * markWords + n / wordBits) (omega arith) (n % wordBits) t in
           or-right (not (hides marks k n)) (ltb k desks && ltb n rows) (and-both (ltb k desks) (ltb n rows) (lt-ltb k desks (omega (arith, ok .0))) (lt-ltb n rows (omega (arith, ok .1))))

@@ -8,6 +8,7 @@ use native.Mathlib.Omega.{arith}
 use lib.Dec.{eqb, leb, ltb}
 use lib.ListN.{length, set, take, drop, length-append, length-set, length-take, length-drop, drop-of-length-le}
 use borrow.Author.Tests.{eq-eqb, ne-eqb, eqb-true}
+use Rattle.sets.specs.Limits.{mostPlaces}
 use Rattle.theory.specs.Pairings.{at}
 use Rattle.theory.proofs.Places.{at-same, at-other}
 use Rattle.sheet.specs.declared.Sheet.{Sheet}
@@ -26,7 +27,7 @@ same-held s t j k e = sym (length-own t j) ∙ ap length e ∙ length-own s k
 
 -- ---- a row is added
 
-module _ {s : Sheet} (k row : ℕ) (w : Whole s) (h : s .used < 512) where
+module _ {s : Sheet} (k row : ℕ) (w : Whole s) (h : s .used < mostPlaces) where
   new-owner : at (set (s .owners) (s .used) k) (s .used) ≡ k
   new-owner = at-same (s .owners) (s .used) k (omega arith)
 
@@ -108,12 +109,12 @@ module _ (s : Sheet) (k from upto : ℕ) where
   pub used-without : without s k from upto .used ≤ s .used
   used-without = count-le (stays (s .owners) k from upto) (s .used)
 
-pub own-without-all : (s : Sheet) (k : ℕ) → s .used ≤ 512 → own (without s k zero 512) k ≡ []
+pub own-without-all : (s : Sheet) (k : ℕ) → s .used ≤ mostPlaces → own (without s k zero mostPlaces) k ≡ []
 own-without-all s k h =
-    own-without-same s k zero 512 (omega arith)
-    ∙ drop-of-length-le (own s k) {i = 512} (omega (arith, length-own s k, count-le (owns (s .owners) k) (s .used)))
+    own-without-same s k zero mostPlaces (omega arith)
+    ∙ drop-of-length-le (own s k) {i = mostPlaces} (omega (arith, length-own s k, count-le (owns (s .owners) k) (s .used)))
 
-pub whole-without : {s : Sheet} (k from upto : ℕ) → Whole s → s .used ≤ 512 → Whole (without s k from upto)
+pub whole-without : {s : Sheet} (k from upto : ℕ) → Whole s → s .used ≤ mostPlaces → Whole (without s k from upto)
 whole-without {s} k from upto w h =
     record {
       marks-long = w .marks-long;

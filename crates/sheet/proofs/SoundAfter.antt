@@ -8,6 +8,7 @@ use native.Mathlib.Nat.{not-suc-le-zero}
 use native.Mathlib.Decide.{ℕ-discrete}
 use native.Mathlib.Omega.{arith}
 use lib.ListN.{set, length-replicate}
+use Rattle.sets.specs.Limits.{mostDesks, mostHeld, mostPlaces, mostRows, mostValues, promised, wordBits}
 use Rattle.theory.specs.Pairings.{at}
 use Rattle.theory.proofs.Places.{at-same, at-other, past}
 use Rattle.sets.specs.Sets.{has, within}
@@ -15,7 +16,7 @@ use Rattle.sets.proofs.Bools.{not-both}
 use Rattle.sets.proofs.Values.{has-empty}
 use Rattle.sheet.specs.declared.Sheet.{Sheet}
 use Rattle.sheet.specs.Upto.{countTo, those}
-use Rattle.sheet.specs.Sheets.{held, Whole, word, hides, owed, shaped, sound}
+use Rattle.sheet.specs.Sheets.{held, Whole, word, hides, owed, shaped, sound, markWords, allMarks}
 use Rattle.sheet.specs.Changes.{freshSheet, marking, hide, hiding, adding, padded, stays, without, wiped, showing, resetting}
 use Rattle.sheet.proofs.UptoLaws.{length-those, top-or-below, sum-part, sum-but-one, sum-most}
 use Rattle.sheet.proofs.ClosingUp.{at-zeros, at-padded, those-from}
@@ -28,9 +29,9 @@ use Rattle.sheet.proofs.SoundParts.{Sound, sound-parts, parts-sound, us
 pub whole-fresh : (d rows desks : ℕ) → Whole (freshSheet d rows desks)
 unfolding freshSheet
 whole-fresh d rows desks =
-    record { marks-long = length-replicate 128 zero; sets-long = length-replicate 512 zero; owners-long = length-replicate 512 zero }
+    record { marks-long = length-replicate allMarks zero; sets-long = length-replicate mostPlaces zero; owners-long = length-replicate mostPlaces zero }
 
-pub sound-fresh : (d rows desks : ℕ) → 1 ≤ d → d ≤ 64 → rows ≤ 256 → 1 ≤ desks → desks ≤ 32 → sound (freshSheet d rows desks) ≡ true
+pub sound-fresh : (d rows desks : ℕ) → 1 ≤ d → d ≤ mostValues → rows ≤ mostRows → 1 ≤ desks → desks ≤ mostDesks → sound (freshSheet d rows desks) ≡ true
 unfolding freshSheet countTo hides
 sound-fresh d rows desks a b c e f =
     parts-sound (freshSheet d rows desks)
@@ -43,11 +44,11 @@ sound-fresh d rows desks a b c e f =
       places = omega arith;
       owner = λ i h. absurd (not-suc-le-zero h);
       row = λ i h. absurd (not-suc-le-zero h);
-      no-owner = λ i h l. at-zeros 512 i;
-      no-row = λ i h l. at-zeros 512 i;
+      no-owner = λ i h l. at-zeros mostPlaces i;
+      no-row = λ i h l. at-zeros mostPlaces i;
       share = λ k h. omega arith;
-      promise = omega (arith, sum-most (λ k. 8) desks 8 (λ k h. omega arith));
-      mark = λ k n h l t. absurd (not-both t (ap (λ (x : ℕ). has x (n % 64)) (at-zeros 128 (word k n)) ∙ has-empty (n % 64)));
+      promise = omega (arith, sum-most (λ k. promised) desks promised (λ k h. omega arith));
+      mark = λ k n h l t. absurd (not-both t (ap (λ (x : ℕ). has x (n % wordBits)) (at-zeros allMarks (word k n)) ∙ has-empty (n % wordBits)));
     }
 
 pub zeros-unsound : sound (freshSheet zero zero zero) ≡ false
@@ -56,7 +57,7 @@ zeros-unsound = refl
 
 -- ---- other marks
 
-pub sound-marking : {s : Sheet} (marks : List ℕ) → Sound s → ((k n : ℕ) → k < 32 → n < 256 → hides marks k n ≡ true → (k < s .desks) × (n < s .rows)) → Sound (marking s marks)
+pub sound-marking : {s : Sheet} (marks : List ℕ) → Sound s → ((k n : ℕ) → k < mostDesks → n < mostRows → hides marks k n ≡ true → (k < s .desks) × (n < s .rows)) → Sound (marking s marks)
 sound-marking marks p right =
     record {
       some-value = p .some-value;
@@ -77,12 +78,12 @@ sound-marking marks p right =
 pub sound-hiding : {s : Sheet} (k n : ℕ) → Whole s → sound s ≡ true → k < s .desks → n < s .rows → sound (hiding s k n) ≡ true
 sound-hiding {s} k n w ok hk hn = parts-sound (hiding s k n) (sound-marking (hide (s .marks) k n) (sound-parts s ok) right)
   where
-    old : (j m : ℕ) → j < 32 → m < 256 → (j ≢ k) ⊎ (m ≢ n) → hides (hide (s .marks) k n) j m ≡ true → (j < s .desks) × (m < s .rows)
+    old : (j m : ℕ) → j < mostDesks → m < mostRows → (j ≢ k) ⊎ (m ≢ n) → hides (hide (s .marks) k n) j m ≡ true → (j < s .desks) × (m < s .rows)
     old j m a b ne t =
         let p = sound-parts s ok in
         p .mark j m a b (sym (hides-other (s .marks) k n (w .marks-long) (omega (arith, p .few-desks)) (omega (arith, p .table)) j m b ne) ∙ t)
 
-    right : (j m : ℕ) → j < 32 → m < 256 → hides (hide (s .marks) k n) j m ≡ true → (j < s .desks) × (m < s .rows)
+    right : (j m : ℕ) → j < mostDesks → m < mostRows → hides (hide (s .marks) k n) j m ≡ true → (j < s .desks) × (m < s .rows)
     right j m a b t = elim (ℕ-discrete j k) [
       | yes e ↦ (elim (ℕ-discrete m n) [
         | yes q ↦ (omega arith, omega arith)
@@ -92,9 +93,9 @@ sound-hiding {s} k n w ok hk hn = parts-sound (hiding s k n) (sound-marking (hid
     ]
 
 pub sound-showing : (s : Sheet) (k : ℕ) → sound s ≡ true → sound (showing s k) ≡ true
-sound-showing s k ok = parts-sound (showing s k) (sound-marking (wiped (s .marks) (k * 4) 4) (sound-parts s ok) right)
+sound-showing s k ok = parts-sound (showing s k) (sound-marking (wiped (s .marks) (k * markWords) markWords) (sound-parts s ok) right)
   where
-    right : (j m : ℕ) → j < 32 → m < 256 → hides (wiped (s .marks) (k * 4) 4) j m ≡ true → (j < s .desks) × (m < s .rows)
+    right : (j m : ℕ) → j < mostDesks → m < mostRows → hides (wiped (s .marks) (k * markWords) markWords) j m ≡ true → (j < s .desks) × (m < s .rows)
     right j m a b t = elim (ℕ-discrete j k) [
       | yes e ↦ absurd (not-both t (rw e (wiped-same (s .marks) k m b)))
       | no ne ↦ sound-parts s ok .mark j m a b (sym (wiped-other (s .marks) k m b j ne) ∙ t)
@@ -103,11 +104,11 @@ sound-showing s k ok = parts-sound (showing s k) (sound-marking (wiped (s .marks
 -- ---- a row is added
 
 -- a desk that holds fewer than 8, or any while a place is neither used nor promised, finds a place
-pub room : (s : Sheet) (k : ℕ) → sound s ≡ true → k < s .desks → (held s k < 8) ⊎ (s .used + owed s < 512) → s .used < 512
-room s k ok hk (inl few) = omega (arith, sum-part (λ k. 8 - held s k) (s .desks) k hk, sound-parts s ok .promise)
+pub room : (s : Sheet) (k : ℕ) → sound s ≡ true → k < s .desks → (held s k < promised) ⊎ (s .used + owed s < mostPlaces) → s .used < mostPlaces
+room s k ok hk (inl few) = omega (arith, sum-part (λ k. promised - held s k) (s .desks) k hk, sound-parts s ok .promise)
 room s k ok hk (inr free) = omega arith
 
-module _ {s : Sheet} (k row : ℕ) (w : Whole s) (p : Sound s) (hk : k < s .desks) (h : s .used < 512) where
+module _ {s : Sheet} (k row : ℕ) (w : Whole s) (p : Sound s) (hk : k < s .desks) (h : s .used < mostPlaces) where
   new-owners : (i : ℕ) → i < suc (s .used) → at (set (s .owners) (s .used) k) i < s .desks
   new-owners i l = elim (top-or-below (s .used) i l) [
     | inl e ↦ rw (e, at-same (s .owners) (s .used) k (omega arith)) hk
@@ -120,19 +121,19 @@ module _ {s : Sheet} (k row : ℕ) (w : Whole s) (p : Sound s) (hk : k < s .desk
     | inr m ↦ rw (at-other (s .sets) (s .used) row i (omega arith)) (p .row i m)
   ]
 
-  new-share : held s k < 64 → (j : ℕ) → j < s .desks → held (adding s k row) j ≤ 64
+  new-share : held s k < mostHeld → (j : ℕ) → j < s .desks → held (adding s k row) j ≤ mostHeld
   new-share hh j l = elim (ℕ-discrete j k) [
     | yes e ↦ rw e (omega (arith, held-adding-same k row w h))
     | no ne ↦ omega (arith, held-adding-other k row w h j ne, p .share j l)
   ]
 
-  new-promise : (held s k < 8) ⊎ (s .used + owed s < 512) → suc (s .used) + owed (adding s k row) ≤ 512
+  new-promise : (held s k < promised) ⊎ (s .used + owed s < mostPlaces) → suc (s .used) + owed (adding s k row) ≤ mostPlaces
   new-promise c =
       let one = held-adding-same k row w h in
-      let others = sum-but-one (λ j. 8 - held (adding s k row) j) (λ j. 8 - held s j) (s .desks) k hk (λ j l ne. ap (λ (x : ℕ). 8 - x) (held-adding-other k row w h j ne)) in
+      let others = sum-but-one (λ j. promised - held (adding s k row) j) (λ j. promised - held s j) (s .desks) k hk (λ j l ne. ap (λ (x : ℕ). promised - x) (held-adding-other k row w h j ne)) in
       elim c [ inl few ↦ omega (arith, p .promise) | inr free ↦ omega arith ]
 
-pub sound-adding : {s : Sheet} (k row : ℕ) → Whole s → sound s ≡ true → k < s .desks → within (s .d) row ≡ true → held s k < 64 → (held s k < 8) ⊎ (s .used + owed s < 512) → sound (adding s k row) ≡ true
+pub sound-adding : {s : Sheet} (k row : ℕ) → Whole s → sound s ≡ true → k < s .desks → within (s .d) row ≡ true → held s k < mostHeld → (held s k < promised) ⊎ (s .used + owed s < mostPlaces) → sound (adding s k row) ≡ true
 sound-adding {s} k row w ok hk hr hh c =
     let p = sound-parts s ok in
     let h = room s k ok hk c in
@@ -172,17 +173,17 @@ module _ {s : Sheet} (k from upto : ℕ) (p : Sound s) (hk : k < s .desks) (ab :
   past-kept : (l : List ℕ) (i : ℕ) → without s k from upto .used ≤ i → at (padded (kept l)) i ≡ zero
   past-kept l i h = at-padded (kept l) i ∙ past (kept l) i (omega (arith, length-those (stays (s .owners) k from upto) l (s .used)))
 
-  less-share : (j : ℕ) → j < s .desks → held (without s k from upto) j ≤ 64
+  less-share : (j : ℕ) → j < s .desks → held (without s k from upto) j ≤ mostHeld
   less-share j l = elim (ℕ-discrete j k) [
     | yes e ↦ rw e (omega (arith, held-without-less s k from upto ab, p .share k hk))
     | no ne ↦ omega (arith, held-without-other s k from upto j ne, p .share j l)
   ]
 
-  less-promise : without s k from upto .used + owed (without s k from upto) ≤ 512
+  less-promise : without s k from upto .used + owed (without s k from upto) ≤ mostPlaces
   less-promise =
       let less = held-without-less s k from upto ab in
       let holds = sum-but-one (held (without s k from upto)) (held s) (s .desks) k hk (λ j l ne. held-without-other s k from upto j ne) in
-      let owes = sum-but-one (λ j. 8 - held (without s k from upto) j) (λ j. 8 - held s j) (s .desks) k hk (λ j l ne. ap (λ (x : ℕ). 8 - x) (held-without-other s k from upto j ne)) in
+      let owes = sum-but-one (λ j. promised - held (without s k from upto) j) (λ j. promised - held s j) (s .desks) k hk (λ j l ne. ap (λ (x : ℕ). promised - x) (held-without-other s k from upto j ne)) in
       omega (arith, p .promise, used-is-held s (p .owner), used-is-held (without s k from upto) kept-owner)
 
 pub sound-without : (s : Sheet) (k from upto : ℕ) → sound s ≡ true → k < s .desks → from ≤ upto → sound (without s k from upto) ≡ true
@@ -206,4 +207,4 @@ sound-without s k from upto ok hk ab =
     }
 
 pub sound-resetting : (s : Sheet) (k : ℕ) → sound s ≡ true → k < s .desks → sound (resetting s k) ≡ true
-sound-resetting s k ok hk = sound-showing (without s k zero 512) k (sound-without s k zero 512 ok hk (omega arith))
+sound-resetting s k ok hk = sound-showing (without s k zero mostPlaces) k (sound-without s k zero mostPlaces ok hk (omega arith))

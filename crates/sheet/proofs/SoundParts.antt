@@ -8,6 +8,7 @@ use native.Mathlib.Omega.{arith}
 use native.Mathlib.Decide.{decLt}
 use lib.Dec.{eqb, leb, ltb}
 use borrow.Author.Tests.{leb-true, le-leb, ltb-true, lt-ltb, eqb-true, eq-eqb, ne-eqb, not-true}
+use Rattle.sets.specs.Limits.{mostDesks, mostHeld, mostPlaces, mostRows, mostValues}
 use Rattle.theory.specs.Pairings.{at}
 use Rattle.sets.specs.Sets.{within}
 use Rattle.sets.proofs.Bools.{and-left, and-right, and-both, or-cases, or-left, or-right, true-or-false, not-both}
@@ -18,18 +19,18 @@ use Rattle.sheet.proofs.UptoLaws.{count-yes, count-no, all-at, all-intr
 
 pub record Sound (s : Sheet) : Type 0 where
   pub some-value : 1 ≤ s .d
-  pub values : s .d ≤ 64
-  pub table : s .rows ≤ 256
+  pub values : s .d ≤ mostValues
+  pub table : s .rows ≤ mostRows
   pub some-desk : 1 ≤ s .desks
-  pub few-desks : s .desks ≤ 32
-  pub places : s .used ≤ 512
+  pub few-desks : s .desks ≤ mostDesks
+  pub places : s .used ≤ mostPlaces
   pub owner : (i : ℕ) → i < s .used → at (s .owners) i < s .desks
   pub row : (i : ℕ) → i < s .used → within (s .d) (at (s .sets) i) ≡ true
-  pub no-owner : (i : ℕ) → i < 512 → s .used ≤ i → at (s .owners) i ≡ zero
-  pub no-row : (i : ℕ) → i < 512 → s .used ≤ i → at (s .sets) i ≡ zero
-  pub share : (k : ℕ) → k < s .desks → held s k ≤ 64
-  pub promise : s .used + owed s ≤ 512
-  pub mark : (k n : ℕ) → k < 32 → n < 256 → hides (s .marks) k n ≡ true → (k < s .desks) × (n < s .rows)
+  pub no-owner : (i : ℕ) → i < mostPlaces → s .used ≤ i → at (s .owners) i ≡ zero
+  pub no-row : (i : ℕ) → i < mostPlaces → s .used ≤ i → at (s .sets) i ≡ zero
+  pub share : (k : ℕ) → k < s .desks → held s k ≤ mostHeld
+  pub promise : s .used + owed s ≤ mostPlaces
+  pub mark : (k n : ℕ) → k < mostDesks → n < mostRows → hides (s .marks) k n ≡ true → (k < s .desks) × (n < s .rows)
 
 -- ---- from the tests
 
@@ -73,36 +74,36 @@ module _ (s : Sheet) where
   unfolding sound shaped placed shared markedRight
   sound-parts e =
       let parts = and-four (shaped s) (placed s) (shared s) (markedRight s) e in
-      let desks-used = and-two (leb 1 (s .d) && leb (s .d) 64 && leb (s .rows) 256 && leb 1 (s .desks) && leb (s .desks) 32) (leb (s .used) 512) (parts .0) in
-      let desks = and-two (leb 1 (s .d) && leb (s .d) 64 && leb (s .rows) 256 && leb 1 (s .desks)) (leb (s .desks) 32) (desks-used .0) in
-      let shape = and-four (leb 1 (s .d)) (leb (s .d) 64) (leb (s .rows) 256) (leb 1 (s .desks)) (desks .0) in
-      let places = and-two (allTo (owned s) (s .used)) (allTo unused 512) (parts .1) in
-      let shares = and-two (allTo (λ k. leb (held s k) 64) (s .desks)) (leb (s .used + owed s) 512) (parts .2) in
+      let desks-used = and-two (leb 1 (s .d) && leb (s .d) mostValues && leb (s .rows) mostRows && leb 1 (s .desks) && leb (s .desks) mostDesks) (leb (s .used) mostPlaces) (parts .0) in
+      let desks = and-two (leb 1 (s .d) && leb (s .d) mostValues && leb (s .rows) mostRows && leb 1 (s .desks)) (leb (s .desks) mostDesks) (desks-used .0) in
+      let shape = and-four (leb 1 (s .d)) (leb (s .d) mostValues) (leb (s .rows) mostRows) (leb 1 (s .desks)) (desks .0) in
+      let places = and-two (allTo (owned s) (s .used)) (allTo unused mostPlaces) (parts .1) in
+      let shares = and-two (allTo (λ k. leb (held s k) mostHeld) (s .desks)) (leb (s .used + owed s) mostPlaces) (parts .2) in
       record {
         some-value = leb-true 1 (s .d) (shape .0);
-        values = leb-true (s .d) 64 (shape .1);
-        table = leb-true (s .rows) 256 (shape .2);
+        values = leb-true (s .d) mostValues (shape .1);
+        table = leb-true (s .rows) mostRows (shape .2);
         some-desk = leb-true 1 (s .desks) (shape .3);
-        few-desks = leb-true (s .desks) 32 (desks .1);
-        places = leb-true (s .used) 512 (desks-used .1);
+        few-desks = leb-true (s .desks) mostDesks (desks .1);
+        places = leb-true (s .used) mostPlaces (desks-used .1);
         owner = λ i h. owned-says i (all-at (owned s) (s .used) (places .0) i h) .0;
         row = λ i h. owned-says i (all-at (owned s) (s .used) (places .0) i h) .1;
-        no-owner = λ i h l. unused-says i (all-at unused 512 (places .1) i h) l .0;
-        no-row = λ i h l. unused-says i (all-at unused 512 (places .1) i h) l .1;
-        share = λ k h. leb-true (held s k) 64 (all-at (λ j. leb (held s j) 64) (s .desks) (shares .0) k h);
-        promise = leb-true (s .used + owed s) 512 (shares .1);
-        mark = λ k n h l. mark-says k n (all-at (mark-right k) 256 (all-at (λ j. allTo (mark-right j) 256) 32 (parts .3) k h) n l);
+        no-owner = λ i h l. unused-says i (all-at unused mostPlaces (places .1) i h) l .0;
+        no-row = λ i h l. unused-says i (all-at unused mostPlaces (places .1) i h) l .1;
+        share = λ k h. leb-true (held s k) mostHeld (all-at (λ j. leb (held s j) mostHeld) (s .desks) (shares .0) k h);
+        promise = leb-true (s .used + owed s) mostPlaces (shares .1);
+        mark = λ k n h l. mark-says k n (all-at (mark-right k) mostRows (all-at (λ j. allTo (mark-right j) mostRows) mostDesks (parts .3) k h) n l);
       }
 
   -- ---- and back
 
-  says-unused : Sound s → (i : ℕ) → i < 512 → unused i ≡ true
+  says-unused : Sound s → (i : ℕ) → i < mostPlaces → unused i ≡ true
   says-unused p i h = elim (decLt i (s .used)) [
     | yes l ↦ or-left _ (empty s i) (lt-ltb i (s .used) l)
     | no l ↦ or-right (ltb i (s .used)) _ (and-both _ _ (eq-eqb (at (s .owners) i) 0 (p .no-owner i h (omega arith))) (eq-eqb (at (s .sets) i) 0 (p .no-row i h (omega arith))))
   ]
 
-  says-mark : Sound s → (k n : ℕ) → k < 32 → n < 256 → mark-right k n ≡ true
+  says-mark : Sound s → (k n : ℕ) → k < mostDesks → n < mostRows → mark-right k n ≡ true
   says-mark p k n h l = elim (true-or-false (hides (s .marks) k n)) [
     | inl e ↦ (let t = p .mark k n h l e in or-right (not (hides (s .marks) k n)) _ (and-both _ _ (lt-ltb k (s .desks) (t .0)) (lt-ltb n (s .rows) (t .1))))
     | inr e ↦ rw e
@@ -113,16 +114,16 @@ module _ (s : Sheet) where
   parts-sound p =
       rw (
         le-leb 1 (s .d) (p .some-value),
-        le-leb (s .d) 64 (p .values),
-        le-leb (s .rows) 256 (p .table),
+        le-leb (s .d) mostValues (p .values),
+        le-leb (s .rows) mostRows (p .table),
         le-leb 1 (s .desks) (p .some-desk),
-        le-leb (s .desks) 32 (p .few-desks),
-        le-leb (s .used) 512 (p .places),
+        le-leb (s .desks) mostDesks (p .few-desks),
+        le-leb (s .used) mostPlaces (p .places),
         all-intro (owned s) (s .used) (λ i h. and-both _ _ (lt-ltb (at (s .owners) i) (s .desks) (p .owner i h)) (p .row i h)),
-        all-intro unused 512 (says-unused p),
-        all-intro (λ k. leb (held s k) 64) (s .desks) (λ k h. le-leb (held s k) 64 (p .share k h)),
-        le-leb (s .used + owed s) 512 (p .promise),
-        all-intro (λ k. allTo (mark-right k) 256) 32 (λ k h. all-intro (mark-right k) 256 (λ n l. says-mark p k n h l)),
+        all-intro unused mostPlaces (says-unused p),
+        all-intro (λ k. leb (held s k) mostHeld) (s .desks) (λ k h. le-leb (held s k) mostHeld (p .share k h)),
+        le-leb (s .used + owed s) mostPlaces (p .promise),
+        all-intro (λ k. allTo (mark-right k) mostRows) mostDesks (λ k h. all-intro (mark-right k) mostRows (λ n l. says-mark p k n h l)),
       )
 
 -- ---- the desks together

@@ -8,6 +8,7 @@ use native.Mathlib.Omega.{arith}
 use lib.Dec.{eqb, ltb}
 use lib.ListN.{length}
 use borrow.Author.Tests.{ltb-true, eqb-true, ne-eqb}
+use Rattle.sets.specs.Limits.{mostDesks, promised}
 use Rattle.sets.proofs.Bools.{and-left}
 use Rattle.sheet.proofs.UptoLaws.{sum-zero, sum-but-one, sum-most}
 use Rattle.store.specs.declared.Call.{Call}
@@ -41,7 +42,7 @@ module _ {d : ℕ} {table : List ℕ} {desks : ℕ} {tell : Store} (keeps : Dema
   isolated past past′ t same ne ne′ =
       keeps .as-alone past t ne ∙ ap (λ (h : List Call). alone d table desks h t) same ∙ sym (keeps .as-alone past′ t ne′)
 
-  module _ (few : desks ≤ 32) where
+  module _ (few : desks ≤ mostDesks) where
     -- a desk that sits alone is never refused by 10: 64 rows and 8 for each of 32 desks are fewer than 512
     pub alone-has-room : (past : List Turn) (t : Turn) (k : ℕ) → t .desk ≡ k → numberOf (tell (mine tell k past) t .answer) ≢ 10
     unfolding ownIn proper
@@ -51,7 +52,7 @@ module _ {d : ℕ} {table : List ℕ} {desks : ℕ} {tell : Store} (keeps : Dema
         let there = ltb-true (t .desk) desks (and-left (ltb (t .desk) desks) (properCall d (t .call)) (g .0)) in
         let others : (j : ℕ) → j ≢ k → heldBy tell j p ≡ 0 = λ j ne. ap (λ (h : List Call). length (ownIn h)) (none-of-others tell j k ne past) in
         let used = sum-but-one (λ j. heldBy tell j p) (λ j. 0) desks k (omega arith) (λ j l ne. others j ne) in
-        let owed = sum-most (λ j. 8 - heldBy tell j p) desks 8 (λ j l. omega arith) in
+        let owed = sum-most (λ j. promised - heldBy tell j p) desks promised (λ j l. omega arith) in
         omega (arith, keeps .desk-limit p k, sum-zero (λ j. 0) desks (λ j l. refl), g .3)
 
     same-history : (k : ℕ) (past : List Turn) → history tell k (mine tell k past) ≡ history tell k past

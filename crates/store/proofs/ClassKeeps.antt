@@ -8,6 +8,7 @@ use native.Mathlib.Omega.{arith}
 use lib.Dec.{leb, ltb}
 use lib.ListN.{length}
 use borrow.Author.Tests.{ltb-true, lt-ltb, leb-true, leb-false, lt-leb, eqb-true, eq-eqb}
+use Rattle.sets.specs.Limits.{mostHeld, mostPlaces, promised}
 use Rattle.sets.proofs.Bools.{and-left, and-right, and-both}
 use Rattle.sheet.specs.declared.Sheet.{Sheet}
 use Rattle.sheet.specs.Sheets.{own, owed, hides}
@@ -38,17 +39,17 @@ module _ {d : ℕ} {table : List ℕ} {desks : ℕ} (good : Good d table desks) 
 
   -- ---- the limits
 
-  most-held : (k : ℕ) → heldBy tell k past ≤ 64
+  most-held : (k : ℕ) → heldBy tell k past ≤ mostHeld
   unfolding ownIn
   most-held k = go (leb desks k) refl
     where
-      go : (b : Bool) → leb desks k ≡ b → heldBy tell k past ≤ 64
+      go : (b : Bool) → leb desks k ≡ b → heldBy tell k past ≤ mostHeld
       go true e = rw (no-history good past k (leb-true desks k e)) (omega arith)
       go false e =
           let h = leb-false desks k e in
           omega (arith, held-is good past k h, s-sound .share k (omega (arith, reached good past .same-desks)))
 
-  most-used : usedBy tell desks past ≤ 512
+  most-used : usedBy tell desks past ≤ mostPlaces
   most-used = omega (arith, used-is good past, s-sound .places)
 
   -- ---- one turn
@@ -70,7 +71,7 @@ module _ {d : ℕ} {table : List ℕ} {desks : ℕ} (good : Good d table desks) 
     told-served : t .desk < desks → tell past t .answer ≡ served
     told-served h = told-here ∙ not-given (leb desks (t .desk)) NoDesk served (lt-leb desks (t .desk) h)
 
-    next-accepted : proper d desks t ≡ true → heldBy tell (t .desk) past < 8 → accepted (tell past t .answer) ≡ true
+    next-accepted : proper d desks t ≡ true → heldBy tell (t .desk) past < promised → accepted (tell past t .answer) ≡ true
     next-accepted p few =
         let q = desk-there p in
         ap accepted (told-served (q .0))
@@ -78,7 +79,7 @@ module _ {d : ℕ} {table : List ℕ} {desks : ℕ} (good : Good d table desks) 
         (omega (arith, ap length (agrees good past (t .desk) (q .0) .rows)))
 
     ten-given : numberOf (tell past t .answer) ≡ 10
-        → (proper d desks t ≡ true) × (8 ≤ heldBy tell (t .desk) past) × (heldBy tell (t .desk) past < 64) × (usedBy tell desks past + owedBy tell desks past ≡ 512)
+        → (proper d desks t ≡ true) × (promised ≤ heldBy tell (t .desk) past) × (heldBy tell (t .desk) past < mostHeld) × (usedBy tell desks past + owedBy tell desks past ≡ mostPlaces)
     unfolding proper decided crowded
     ten-given e =
         let p = skipped 10 (leb desks (t .desk)) NoDesk [] served (omega arith) (sym (ap numberOf told-here) ∙ e) in
@@ -88,10 +89,10 @@ module _ {d : ℕ} {table : List ℕ} {desks : ℕ} (good : Good d table desks) 
           and-both (ltb (t .desk) desks) (properCall d (t .call)) (lt-ltb (t .desk) desks h) (q .0),
           omega (arith, q .1),
           omega (arith, q .2),
-          omega (arith, eqb-true (s .used + owed s) 512 (q .3), used-is good past, owed-is good past),
+          omega (arith, eqb-true (s .used + owed s) mostPlaces (q .3), used-is good past, owed-is good past),
         )
 
-    given-ten : (proper d desks t ≡ true) × (8 ≤ heldBy tell (t .desk) past) × (heldBy tell (t .desk) past < 64) × (usedBy tell desks past + owedBy tell desks past ≡ 512)
+    given-ten : (proper d desks t ≡ true) × (promised ≤ heldBy tell (t .desk) past) × (heldBy tell (t .desk) past < mostHeld) × (usedBy tell desks past + owedBy tell desks past ≡ mostPlaces)
         → numberOf (tell past t .answer) ≡ 10
     unfolding crowded
     given-ten g =
@@ -99,7 +100,7 @@ module _ {d : ℕ} {table : List ℕ} {desks : ℕ} (good : Good d table desks) 
         let rows = ap length (agrees good past (t .desk) (q .0) .rows) in
         ap numberOf (told-served (q .0))
         ∙ ten-serve d table (crowded s) (length (t .list)) (hides (s .marks) (t .desk)) (own s (t .desk)) (t .call) (q .1) (omega (arith, g .1)) (omega (arith, g .2))
-        (eq-eqb (s .used + owed s) 512 (omega (arith, used-is good past, owed-is good past, g .3)))
+        (eq-eqb (s .used + owed s) mostPlaces (omega (arith, used-is good past, owed-is good past, g .3)))
 
     abbrev h : List Call
     h = history tell (t .desk) past

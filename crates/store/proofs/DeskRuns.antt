@@ -9,11 +9,12 @@ use native.Mathlib.Omega.{arith}
 use lib.Dec.{eqb}
 use lib.ListN.{length, take, drop}
 use borrow.Author.Tests.{eqb-true, eq-eqb, ne-eqb}
+use Rattle.sets.specs.Limits.{mostDesks, mostPlaces, mostRows, promised, wordBits}
 use Rattle.sets.specs.Sets.{has}
 use Rattle.sets.proofs.Values.{has-empty}
 use Rattle.sheet.specs.declared.Sheet.{Sheet}
 use Rattle.sheet.specs.Upto.{sumTo, those}
-use Rattle.sheet.specs.Sheets.{own, held, owed, hides, word}
+use Rattle.sheet.specs.Sheets.{own, held, owed, hides, word, allMarks}
 use Rattle.sheet.specs.Changes.{freshSheet}
 use Rattle.sheet.proofs.UptoLaws.{sum-ext}
 use Rattle.sheet.proofs.ClosingUp.{at-zeros}
@@ -33,7 +34,7 @@ use Rattle.store.proofs.SheetRuns.{Reached, reached, call-has}
 -- the sheet has of desk k what history h says
 pub record Agrees (s : Sheet) (k : ℕ) (h : List Call) : Type 0 where
   pub rows : own s k ≡ ownIn h
-  pub marks : (n : ℕ) → n < 256 → hides (s .marks) k n ≡ member (hiddenIn h) n
+  pub marks : (n : ℕ) → n < mostRows → hides (s .marks) k n ≡ member (hiddenIn h) n
 
 -- what a call adds to a history
 accepted-call : (own : Bool) (h g : List Call) → cond (own && true) h g ≡ cond own h g
@@ -49,18 +50,18 @@ module _ {d : ℕ} {table : List ℕ} {desks : ℕ} (good : Good d table desks) 
 
   fresh : (k : ℕ) → Agrees (begunSheet d table desks) k []
   unfolding begunSheet freshSheet those hides ownIn hiddenIn member
-  fresh k = rw (parts-good good) record { rows = refl; marks = λ n h. ap (λ (x : ℕ). has x (n % 64)) (at-zeros 128 (word k n)) ∙ has-empty (n % 64) }
+  fresh k = rw (parts-good good) record { rows = refl; marks = λ n h. ap (λ (x : ℕ). has x (n % wordBits)) (at-zeros allMarks (word k n)) ∙ has-empty (n % wordBits) }
 
   -- ---- an accepted call
 
   module _ {s : Sheet} (r : Reached d table desks s) (k : ℕ) (hk : k < desks) where
-    place : (set : ℕ) → Allowed d (length table) (crowded s) (own s k) (Insert set) → s .used < 512
+    place : (set : ℕ) → Allowed d (length table) (crowded s) (own s k) (Insert set) → s .used < mostPlaces
     place set a = room s k (r .stays-sound) (omega (arith, r .same-desks)) (has-room s (r .stays-sound) k (a .2))
 
-    narrow : {n : ℕ} → n < length table → n < 256
+    narrow : {n : ℕ} → n < length table → n < mostRows
     narrow l = omega (arith, good .small)
 
-    low : k < 32
+    low : k < mostDesks
     low = omega (arith, good .few-desks)
 
     own-same : (c : Call) (h : List Call) → Allowed d (length table) (crowded s) (own s k) c → own s k ≡ ownIn h → own (changed s k c) k ≡ ownIn (c ∷ h)
@@ -73,7 +74,7 @@ module _ {d : ℕ} {table : List ℕ} {desks : ℕ} (good : Good d table desks) 
     own-same Count h a e = e
     own-same Distinct h a e = e
 
-    hides-here : (c : Call) (h : List Call) → Allowed d (length table) (crowded s) (own s k) c → (n : ℕ) → n < 256
+    hides-here : (c : Call) (h : List Call) → Allowed d (length table) (crowded s) (own s k) c → (n : ℕ) → n < mostRows
         → hides (s .marks) k n ≡ member (hiddenIn h) n → hides (changed s k c .marks) k n ≡ member (hiddenIn (c ∷ h)) n
     unfolding changed hiddenIn member
     hides-here (Delete (Table m)) h a n l e = elim (ℕ-discrete m n) [
@@ -93,12 +94,12 @@ module _ {d : ℕ} {table : List ℕ} {desks : ℕ} (good : Good d table desks) 
       own-other (Delete (Table n)) a = refl
       own-other (Delete (Own n)) a = own-without-other s k n (suc n) j ne
       own-other (Insert set) a = own-adding-other k set (r .whole) (place set a) j ne
-      own-other Reset a = own-without-other s k zero 512 j ne
+      own-other Reset a = own-without-other s k zero mostPlaces j ne
       own-other (Look n) a = refl
       own-other Count a = refl
       own-other Distinct a = refl
 
-      hides-there : (c : Call) → Allowed d (length table) (crowded s) (own s k) c → (n : ℕ) → n < 256 → hides (changed s k c .marks) j n ≡ hides (s .marks) j n
+      hides-there : (c : Call) → Allowed d (length table) (crowded s) (own s k) c → (n : ℕ) → n < mostRows → hides (changed s k c .marks) j n ≡ hides (s .marks) j n
       unfolding changed
       hides-there (Delete (Table m)) a n l = hides-other (s .marks) k m (r .whole .marks-long) low (narrow a) j n l (inl ne)
       hides-there (Delete (Own m)) a n l = refl
@@ -166,6 +167,6 @@ module _ {d : ℕ} {table : List ℕ} {desks : ℕ} (good : Good d table desks) 
 
   pub owed-is : (past : List Turn) → owed (sheet past) ≡ owedBy (classStore d table desks) desks past
   owed-is past =
-      ap (sumTo (λ k. 8 - held (sheet past) k)) (reached good past .same-desks)
-      ∙ sum-ext (λ k. 8 - held (sheet past) k) (λ k. 8 - heldBy (classStore d table desks) k past) desks
-      (λ k h. ap (λ (x : ℕ). 8 - x) (held-is past k h))
+      ap (sumTo (λ k. promised - held (sheet past) k)) (reached good past .same-desks)
+      ∙ sum-ext (λ k. promised - held (sheet past) k) (λ k. promised - heldBy (classStore d table desks) k past) desks
+      (λ k h. ap (λ (x : ℕ). promised - x) (held-is past k h))

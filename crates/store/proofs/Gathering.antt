@@ -8,6 +8,7 @@ use native.Mathlib.Numerals.{unary-clauses}
 use native.Mathlib.Omega.{arith}
 use lib.ListN.{length, set, take, length-set, length-append}
 use lib.Seq.{take-suc-set}
+use Rattle.sets.specs.Limits.{mostInView}
 use Rattle.theory.specs.Pairings.{at}
 use Rattle.sheet.specs.Upto.{countTo, those}
 use Rattle.sheet.proofs.UptoLaws.{count-yes, count-no, count-more, length-those, those-yes, those-no}
@@ -44,8 +45,8 @@ module _ (f : ℕ → Bool) (from : List ℕ) (start : ℕ) (old : List ℕ) whe
 
 -- both parts make the view
 pub viewed : (table : List ℕ) (hid g : ℕ → Bool) (sets : List ℕ) (used : ℕ) (old : List ℕ) (seen : ℕ) (rows : List ℕ) (n : ℕ) (rows′ : List ℕ)
-    → Filled (λ i. not (hid i)) table (length table) zero old seen rows → Filled g sets used seen rows n rows′ → n ≤ 320
-    → length old ≡ 320 → Viewed table hid (those g sets used) n rows′
+    → Filled (λ i. not (hid i)) table (length table) zero old seen rows → Filled g sets used seen rows n rows′ → n ≤ mostInView
+    → length old ≡ mostInView → Viewed table hid (those g sets used) n rows′
 unfolding view
 viewed table hid g sets used old seen rows n rows′ T O most long =
     let f : ℕ → Bool = λ i. not (hid i) in

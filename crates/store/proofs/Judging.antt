@@ -8,6 +8,7 @@ use native.Mathlib.Omega.{arith}
 use lib.Dec.{eqb, leb, ltb}
 use lib.ListN.{length}
 use borrow.Author.Tests.{ltb-false, leb-false, eqb-false, not-false, le-ltb, ne-eqb}
+use Rattle.sets.specs.Limits.{mostDesks, mostHeld, mostPlaces, mostRows, mostValues, promised}
 use Rattle.sets.specs.declared.Found.{Found}
 use Rattle.sets.specs.declared.Found.the-variants.{At, Nothing}
 use Rattle.sets.specs.Sets.{within}
@@ -66,11 +67,11 @@ or-no true b e = absurd (false≢true (sym e))
 
 pub record Good (d : ℕ) (table : List ℕ) (desks : ℕ) : Type 0 where
   pub some-value : 1 ≤ d
-  pub values : d ≤ 64
-  pub small : length table ≤ 256
+  pub values : d ≤ mostValues
+  pub small : length table ≤ mostRows
   pub right : badRow d table ≡ Nothing
   pub some-desk : 1 ≤ desks
-  pub few-desks : desks ≤ 32
+  pub few-desks : desks ≤ mostDesks
 
 pub none-bad : (f : Found) → badCase f .applies ≡ false → f ≡ Nothing
 none-bad Nothing e = refl
@@ -79,20 +80,20 @@ none-bad (At i) e = absurd (false≢true (sym e))
 pub good-parts : (d : ℕ) (table : List ℕ) (desks : ℕ) → accepted (begunAnswer d table desks) ≡ true → Good d table desks
 unfolding begunAnswer tableCases
 good-parts d table desks t =
-    let large = passed (eqb d zero || ltb 64 d || ltb 256 (length table)) TooLarge _ Done t in
+    let large = passed (eqb d zero || ltb mostValues d || ltb mostRows (length table)) TooLarge _ Done t in
     let bad = passed (badCase (badRow d table) .applies) (badCase (badRow d table) .refusal) _ Done (large .1) in
-    let number = or-no (eqb desks zero) (ltb 32 desks) (passed (eqb desks zero || ltb 32 desks) BadDesks [] Done (bad .1) .0) in
-    let rows = or-no (eqb d zero || ltb 64 d) (ltb 256 (length table)) (large .0) in
-    let values = or-no (eqb d zero) (ltb 64 d) (rows .0) in
+    let number = or-no (eqb desks zero) (ltb mostDesks desks) (passed (eqb desks zero || ltb mostDesks desks) BadDesks [] Done (bad .1) .0) in
+    let rows = or-no (eqb d zero || ltb mostValues d) (ltb mostRows (length table)) (large .0) in
+    let values = or-no (eqb d zero) (ltb mostValues d) (rows .0) in
     let d-not : d ≡ zero → ⊥ = eqb-false d zero (values .0) in
     let desks-not : desks ≡ zero → ⊥ = eqb-false desks zero (number .0) in
     record {
       some-value = omega arith;
-      values = ltb-false 64 d (values .1);
-      small = ltb-false 256 (length table) (rows .1);
+      values = ltb-false mostValues d (values .1);
+      small = ltb-false mostRows (length table) (rows .1);
       right = none-bad (badRow d table) (bad .0);
       some-desk = omega arith;
-      few-desks = ltb-false 32 desks (number .1);
+      few-desks = ltb-false mostDesks desks (number .1);
     }
 
 pub parts-good : {d : ℕ} {table : List ℕ} {desks : ℕ} → Good d table desks → accepted (begunAnswer d table desks) ≡ true
@@ -100,11 +101,11 @@ unfolding begunAnswer tableCases decided accepted
 parts-good {d} {table} {desks} g =
     rw (
       ne-eqb d zero (λ e. absurd (omega (arith, g .some-value))),
-      le-ltb 64 d (g .values),
-      le-ltb 256 (length table) (g .small),
+      le-ltb mostValues d (g .values),
+      le-ltb mostRows (length table) (g .small),
       g .right,
       ne-eqb desks zero (λ e. absurd (omega (arith, g .some-desk))),
-      le-ltb 32 desks (g .few-desks),
+      le-ltb mostDesks desks (g .few-desks),
     )
 
 -- ---- a call
@@ -113,7 +114,7 @@ parts-good {d} {table} {desks} g =
 abbrev pub Allowed : ℕ → ℕ → Bool → List ℕ → Call → Type 0
 Allowed d rows full own (Delete (Table n)) = n < rows
 Allowed d rows full own (Delete (Own n)) = n < length own
-Allowed d rows full own (Insert set) = (within d set ≡ true) × (length own < 64) × (full ≡ true → length own < 8)
+Allowed d rows full own (Insert set) = (within d set ≡ true) × (length own < mostHeld) × (full ≡ true → length own < promised)
 Allowed d rows full own Reset = Unit {0}
 Allowed d rows full own (Look n) = Unit {0}
 Allowed d rows full own Count = Unit {0}
@@ -130,13 +131,13 @@ allowed d table full places hid own (Delete (Table n)) t =
     leb-false (length table) n (passed (leb (length table) n) NoRow ((hid n gives HiddenAlready) ∷ []) Done t .0)
 allowed d table full places hid own (Delete (Own n)) t = leb-false (length own) n (passed (leb (length own) n) NoRow [] Done t .0)
 allowed d table full places hid own (Insert set) t =
-    let room : List Case = ((leb 8 (length own) && full) gives NoRoom) ∷ [] in
-    let one = passed (not (within d set)) BadSet ((leb 64 (length own) gives Full) ∷ room) Done t in
-    let two = passed (leb 64 (length own)) Full room Done (one .1) in
-    let three = passed (leb 8 (length own) && full) NoRoom [] Done (two .1) in (
+    let room : List Case = ((leb promised (length own) && full) gives NoRoom) ∷ [] in
+    let one = passed (not (within d set)) BadSet ((leb mostHeld (length own) gives Full) ∷ room) Done t in
+    let two = passed (leb mostHeld (length own)) Full room Done (one .1) in
+    let three = passed (leb promised (length own) && full) NoRoom [] Done (two .1) in (
       not-false (within d set) (one .0),
-      leb-false 64 (length own) (two .0),
-      λ e. leb-false 8 (length own) (and-no (leb 8 (length own)) full (three .0) e),
+      leb-false mostHeld (length own) (two .0),
+      λ e. leb-false promised (length own) (and-no (leb promised (length own)) full (three .0) e),
     )
 allowed d table full places hid own Reset t = tt
 allowed d table full places hid own (Look n) t = tt
@@ -144,11 +145,11 @@ allowed d table full places hid own Count t = tt
 allowed d table full places hid own Distinct t = tt
 
 -- an accepted insert finds a place that is free, or promised to its desk
-pub has-room : (s : Sheet) → sound s ≡ true → (k : ℕ) → (crowded s ≡ true → length (own s k) < 8) → (held s k < 8) ⊎ (s .used + owed s < 512)
+pub has-room : (s : Sheet) → sound s ≡ true → (k : ℕ) → (crowded s ≡ true → length (own s k) < promised) → (held s k < promised) ⊎ (s .used + owed s < mostPlaces)
 unfolding crowded
 has-room s right k few = elim (true-or-false (crowded s)) [
   | inl e ↦ inl (omega (arith, few e, length-own s k))
   | inr e ↦
-      (let ne : s .used + owed s ≡ 512 → ⊥ = eqb-false (s .used + owed s) 512 e in
+      (let ne : s .used + owed s ≡ mostPlaces → ⊥ = eqb-false (s .used + owed s) mostPlaces e in
       inr (omega (arith, sound-parts s right .promise)))
 ]

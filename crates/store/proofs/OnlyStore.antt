@@ -7,6 +7,7 @@ use native.Mathlib.Decide.{ℕ-discrete}
 use native.Mathlib.Omega.{arith}
 use lib.Dec.{eqb}
 use lib.ListN.{length}
+use Rattle.sets.specs.Limits.{promised}
 use Rattle.sheet.proofs.UptoLaws.{sum-ext}
 use Rattle.store.specs.declared.Call.{Call}
 use Rattle.refusals.specs.declared.Refusal.the-variants.{NoRoom}
@@ -29,7 +30,7 @@ ten-alike {desks = desks} {tell} {tell′} keeps keeps′ past same t e =
     let held : (k : ℕ) → heldBy tell k past ≡ heldBy tell′ k past = λ k. ap (λ (h : List Call). length (ownIn h)) (same k) in
     let mine = held (t .desk) in
     let used = sum-ext (λ k. heldBy tell k past) (λ k. heldBy tell′ k past) desks (λ k h. held k) in
-    let owed = sum-ext (λ k. 8 - heldBy tell k past) (λ k. 8 - heldBy tell′ k past) desks (λ k h. ap (λ (x : ℕ). 8 - x) (held k)) in
+    let owed = sum-ext (λ k. promised - heldBy tell k past) (λ k. promised - heldBy tell′ k past) desks (λ k h. ap (λ (x : ℕ). promised - x) (held k)) in
     keeps′ .no-room past t .1 (g .0, omega (arith, g .1), omega (arith, g .2), omega (arith, g .3))
 
 module _ {d : ℕ} {table : List ℕ} {desks : ℕ} {tell tell′ : Store} (keeps : Demand3 d table desks tell) (keeps′ : Demand3 d table desks tell′) where

@@ -9,6 +9,7 @@ use native.Mathlib.Omega.{arith}
 use lib.Dec.{leb}
 use lib.ListN.{length, length-append}
 use borrow.Author.Tests.{lt-leb, ne-eqb}
+use Rattle.sets.specs.Limits.{mostHeld, mostPlaces, promised}
 use Rattle.sheet.specs.Upto.{sumTo}
 use Rattle.sheet.proofs.UptoLaws.{top-or-below, sum-part}
 use Rattle.store.specs.declared.Call.{Call}
@@ -43,7 +44,7 @@ asked k (suc n) past = asking k ∷ asked k n past
 
 unfoldable run : ℕ → List Turn
 run zero = []
-run (suc j) = asked j 64 (run j)
+run (suc j) = asked j mostHeld (run j)
 
 module _ {d : ℕ} {table : List ℕ} {desks : ℕ} {tell : Store} (begun : accepted (begunAnswer d table desks) ≡ true) (keeps : Demand3 d table desks tell) where
   -- another desk's rows stay
@@ -52,17 +53,17 @@ module _ {d : ℕ} {table : List ℕ} {desks : ℕ} {tell : Store} (begun : acce
   others j k zero ne past = refl
   others j k (suc n) ne past = rw (ne-eqb k j (λ e. ne (sym e))) (others j k n ne past)
 
-  module _ (nine : 9 ≤ desks) (wrong : (past : List Turn) (t : Turn) → numberOf (tell past t .answer) ≡ 10 → usedBy tell desks past ≡ 512) where
+  module _ (nine : 9 ≤ desks) (wrong : (past : List Turn) (t : Turn) → numberOf (tell past t .answer) ≡ 10 → usedBy tell desks past ≡ mostPlaces) where
     -- while desk 8 has no rows, eight places are owed to it, so no insert is refused by 10
-    accepts : (past : List Turn) (k : ℕ) → k < 8 → heldBy tell 8 past ≡ zero → heldBy tell k past < 64 → accepted (tell past (asking k) .answer) ≡ true
+    accepts : (past : List Turn) (k : ℕ) → k < 8 → heldBy tell 8 past ≡ zero → heldBy tell k past < mostHeld → accepted (tell past (asking k) .answer) ≡ true
     unfolding alone decided serve accepted
     accepts past k h none room =
-        let owed = sum-part (λ j. 8 - heldBy tell j past) desks 8 (omega arith) in
+        let owed = sum-part (λ j. promised - heldBy tell j past) desks 8 (omega arith) in
         let told = keeps .as-alone past (asking k) (λ e. omega (arith, wrong past (asking k) e, owed-is-kept begun keeps past)) in
         ap (λ (a : Told). accepted (a .answer)) told
-        ∙ rw (lt-leb desks k (omega arith), within-one d (good-parts d table desks begun .some-value), lt-leb 64 (heldBy tell k past) room, and-false (leb 8 (heldBy tell k past)))
+        ∙ rw (lt-leb desks k (omega arith), within-one d (good-parts d table desks begun .some-value), lt-leb mostHeld (heldBy tell k past) room, and-false (leb 8 (heldBy tell k past)))
 
-    gets : (k n : ℕ) → k < 8 → (past : List Turn) → heldBy tell 8 past ≡ zero → heldBy tell k past + n ≤ 64 → heldBy tell k (asked k n past) ≡ heldBy tell k past + n
+    gets : (k n : ℕ) → k < 8 → (past : List Turn) → heldBy tell 8 past ≡ zero → heldBy tell k past + n ≤ mostHeld → heldBy tell k (asked k n past) ≡ heldBy tell k past + n
     unfolding asked ownIn
     gets k zero h past none room = omega arith
     gets k (suc n) h past none room =
@@ -72,14 +73,14 @@ module _ {d : ℕ} {table : List ℕ} {desks : ℕ} {tell : Store} (begun : acce
         let next = history-next begun keeps before k (Insert 1) [] (accepts before k h (omega arith) (omega arith)) in
         omega (arith, ap (λ (l : List Call). length (ownIn l)) next, length-append (ownIn (history tell k before)) (1 ∷ []))
 
-    held-in : (j : ℕ) → j ≤ 8 → ((i : ℕ) → i < j → heldBy tell i (run j) ≡ 64) × ((i : ℕ) → j ≤ i → heldBy tell i (run j) ≡ zero)
+    held-in : (j : ℕ) → j ≤ 8 → ((i : ℕ) → i < j → heldBy tell i (run j) ≡ mostHeld) × ((i : ℕ) → j ≤ i → heldBy tell i (run j) ≡ zero)
     unfolding run history ownIn
     held-in zero h = (λ i l. absurd (omega arith), λ i l. refl)
     held-in (suc j) h =
         let before = held-in j (omega arith) in
-        let same : (i : ℕ) → i ≢ j → heldBy tell i (run (suc j)) ≡ heldBy tell i (run j) = λ i ne. ap (λ (l : List Call). length (ownIn l)) (others i j 64 ne (run j)) in
+        let same : (i : ℕ) → i ≢ j → heldBy tell i (run (suc j)) ≡ heldBy tell i (run j) = λ i ne. ap (λ (l : List Call). length (ownIn l)) (others i j mostHeld ne (run j)) in
         let now = before .1 j (omega arith) in
-        let mine = gets j 64 (omega arith) (run j) (before .1 8 (omega arith)) (omega arith) in (
+        let mine = gets j mostHeld (omega arith) (run j) (before .1 8 (omega arith)) (omega arith) in (
           λ i l. elim (top-or-below j i l) [
             | inl e ↦ rw e (omega arith)
             | inr m ↦ same i (omega arith) ∙ before .0 i m
@@ -90,6 +91,6 @@ module _ {d : ℕ} {table : List ℕ} {desks : ℕ} {tell : Store} (begun : acce
     pub no-insert-looks-at-the-places-alone : ⊥
     no-insert-looks-at-the-places-alone =
         let held = held-in 8 (omega arith) in
-        let used = sum-least (λ i. heldBy tell i (run 8)) 64 desks 8 (omega arith) (λ i l. omega (arith, held .0 i l)) in
-        let owed = sum-part (λ i. 8 - heldBy tell i (run 8)) desks 8 (omega arith) in
+        let used = sum-least (λ i. heldBy tell i (run 8)) mostHeld desks 8 (omega arith) (λ i l. omega (arith, held .0 i l)) in
+        let owed = sum-part (λ i. promised - heldBy tell i (run 8)) desks 8 (omega arith) in
         omega (arith, held .1 8 (omega arith), owed-is-kept begun keeps (run 8))

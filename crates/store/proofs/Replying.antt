@@ -26,7 +26,7 @@ use Rattle.store.specs.declared.Answer.the-variants.{Done, Seen, Counted
 use Rattle.refusals.specs.Cases.{Case, _gives_, decided}
 use Rattle.store.specs.Answers.{accepted}
 use Rattle.store.specs.Desks.{view, serve, listAfter}
-use Rattle.sets.specs.Limits.{mostRows}
+use Rattle.sets.specs.Limits.{mostRows, mostDesks, mostPlaces, promised}
 use Rattle.refusals.specs.TableCases.{tableCases}
 use Rattle.store.specs.Calls.{deskCases, sheetCases, crowded, begunAnswer, begunSheet, begun, answered, changed, sheetAfter, replied, told}
 use Rattle.store.specs.Serving.{Trusted, Served, Possible, Responded, CarriedOut}
@@ -74,18 +74,18 @@ module _ (d : ℕ) (table : List ℕ) (desks : ℕ) where
   pub begun-refused : accepted (decided Refused (tableCases mostRows d table) Done) ≡ false
       → record { answer = decided Refused (tableCases mostRows d table) Done; sheet = freshSheet zero zero zero } ≡ begun d table desks
   unfolding begunAnswer begunSheet
-  begun-refused e = let stop = stopped (tableCases mostRows d table) (((eqb desks zero || ltb 32 desks) gives BadDesks) ∷ []) Done e in rw (stop, e) refl
+  begun-refused e = let stop = stopped (tableCases mostRows d table) (((eqb desks zero || ltb mostDesks desks) gives BadDesks) ∷ []) Done e in rw (stop, e) refl
 
   module _ (right : accepted (decided Refused (tableCases mostRows d table) Done) ≡ true) where
-    pub begun-desks : (eqb desks zero || ltb 32 desks) ≡ true → record { answer = Refused BadDesks; sheet = freshSheet zero zero zero } ≡ begun d table desks
+    pub begun-desks : (eqb desks zero || ltb mostDesks desks) ≡ true → record { answer = Refused BadDesks; sheet = freshSheet zero zero zero } ≡ begun d table desks
     unfolding begunAnswer begunSheet decided accepted
-    begun-desks e = let on = went-on (tableCases mostRows d table) (((eqb desks zero || ltb 32 desks) gives BadDesks) ∷ []) Done right in rw (on, e) refl
+    begun-desks e = let on = went-on (tableCases mostRows d table) (((eqb desks zero || ltb mostDesks desks) gives BadDesks) ∷ []) Done right in rw (on, e) refl
 
-    pub begun-right : (eqb desks zero || ltb 32 desks) ≡ false
+    pub begun-right : (eqb desks zero || ltb mostDesks desks) ≡ false
         → record { answer = decided Refused (tableCases mostRows d table) Done; sheet = freshSheet d (length table) desks } ≡ begun d table desks
     unfolding begunAnswer begunSheet decided accepted
     begun-right e =
-        let on = went-on (tableCases mostRows d table) (((eqb desks zero || ltb 32 desks) gives BadDesks) ∷ []) Done right in
+        let on = went-on (tableCases mostRows d table) (((eqb desks zero || ltb mostDesks desks) gives BadDesks) ∷ []) Done right in
         rw (on, e, done (tableCases mostRows d table) right) refl
 
 -- ---- a desk's call
@@ -193,14 +193,14 @@ possible d table s counts k T c places t = go c (allowed d table (crowded s) pla
     L : Limits d table s counts k
     L = limits d table s counts k T
 
-    promised : held s k < 8 → s .used < 512
-    promised h = omega (arith, sum-part (λ j. 8 - held s j) (s .desks) k (T .desk-there), L .promise)
+    has-place : held s k < promised → s .used < mostPlaces
+    has-place h = omega (arith, sum-part (λ j. promised - held s j) (s .desks) k (T .desk-there), L .promise)
 
     go : (c : Call) → Allowed d (length table) (crowded s) (own s k) c → Possible s k c
     go (Delete (Table n)) a = (L .desk, omega (arith, L .table-rows))
     go (Delete (Own n)) a = (L .used, omega (arith, L .share, length-own s k))
     go (Insert set) a = elim (has-room s (T .sheet-right) k (a .2)) [
-      | inl h ↦ promised h
+      | inl h ↦ has-place h
       | inr h ↦ omega arith
     ]
     go Reset a = (L .used, L .desk)

@@ -5,6 +5,7 @@ use mathlib.Core.Bool.{Bool, true, false, cond}
 use mathlib.Core.List.{List, [], _∷_}
 use lib.Dec.{eqb}
 use lib.ListN.{length, take}
+use Rattle.sets.specs.Limits.{mostPlaces, promised}
 use Rattle.theory.specs.Pairings.{at}
 use Rattle.theory.specs.Kept.{kept}
 use Rattle.sheet.specs.declared.Sheet.{Sheet}
@@ -50,8 +51,8 @@ module _ (d : ℕ) (table : List ℕ) (s : Sheet) (counts : List ℕ) (k : ℕ) 
     list-is = rw a (sym (silent d (view table (hides (s .marks) k) (own s k)) old (rowCases (at counts k) n) Done refl));
   }
 
-  pub served-insert : (set : ℕ) → c ≡ Insert set → (owes : ℕ) → owes ≡ sumTo (λ j. 8 - at counts j) (s .desks) → (r : Answer)
-      → r ≡ decided Refused (insertCases d (eqb (s .used + owes) 512) (at counts k) set) Done → Served d table s k c old r old
+  pub served-insert : (set : ℕ) → c ≡ Insert set → (owes : ℕ) → owes ≡ sumTo (λ j. promised - at counts j) (s .desks) → (r : Answer)
+      → r ≡ decided Refused (insertCases d (eqb (s .used + owes) mostPlaces) (at counts k) set) Done → Served d table s k c old r old
   unfolding serve crowded listAfter
   served-insert set e owes o r a = record {
     answer-is = rw (e, sym mine, sym (limits d table s counts k T .owes), sym o) a;

@@ -7,6 +7,7 @@ use native.Mathlib.Omega.{arith}
 use lib.Dec.{leb}
 use lib.ListN.{length}
 use borrow.Author.Tests.{le-ltb, leb-false, eq-eqb, ne-eqb}
+use Rattle.sets.specs.Limits.{mostPlaces, mostRows, mostValues}
 use Rattle.sheet.specs.declared.Sheet.{Sheet}
 use Rattle.sheet.specs.Sheets.{own, hides, Whole, sound}
 use Rattle.sheet.specs.Changes.{freshSheet}
@@ -63,8 +64,8 @@ module _ {d : ℕ} {table : List ℕ} {desks : ℕ} (good : Good d table desks) 
   answered-here {s} r k c places =
       rw (
         ne-eqb d zero (λ e. absurd (omega (arith, good .some-value))),
-        le-ltb 64 d (good .values),
-        le-ltb 256 (length table) (good .small),
+        le-ltb mostValues d (good .values),
+        le-ltb mostRows (length table) (good .small),
         good .right,
         r .stays-sound,
         eq-eqb (s .d) d (r .same-d),
@@ -111,7 +112,7 @@ module _ {d : ℕ} {table : List ℕ} {desks : ℕ} (good : Good d table desks) 
       }
   after {s} r k Reset h a =
       record {
-        whole = whole-showing k (whole-without k zero 512 (r .whole) (sound-parts s (r .stays-sound) .places));
+        whole = whole-showing k (whole-without k zero mostPlaces (r .whole) (sound-parts s (r .stays-sound) .places));
         stays-sound = sound-resetting s k (r .stays-sound) (omega (arith, r .same-desks));
         same-d = r .same-d;
         same-rows = r .same-rows;

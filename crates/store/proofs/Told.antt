@@ -8,6 +8,7 @@ use native.Mathlib.Omega.{arith}
 use lib.Dec.{leb, ltb}
 use lib.ListN.{length}
 use borrow.Author.Tests.{leb-true, leb-false, le-leb, lt-leb, not-false}
+use Rattle.sets.specs.Limits.{mostHeld, mostInView, promised}
 use Rattle.sets.specs.Sets.{within}
 use Rattle.sets.proofs.Bools.{and-left, and-right}
 use Rattle.theory.specs.Pairings.{at}
@@ -72,7 +73,7 @@ ten-is (Listed n) e = absurd (omega arith)
 ten-is (Refused r) e = ap Refused (ten-no-room r e)
 
 module _ (d : ℕ) (table : List ℕ) (full : Bool) (places : ℕ) (hid : ℕ → Bool) (own : List ℕ) where
-  pub serve-ten : (c : Call) → numberOf (serve d table full places hid own c) ≡ 10 → (properCall d c ≡ true) × (8 ≤ length own) × (length own < 64) × (full ≡ true)
+  pub serve-ten : (c : Call) → numberOf (serve d table full places hid own c) ≡ 10 → (properCall d c ≡ true) × (promised ≤ length own) × (length own < mostHeld) × (full ≡ true)
   unfolding serve properCall decided
   serve-ten (Delete (Table n)) e =
       absurd (omega (
@@ -82,14 +83,14 @@ module _ (d : ℕ) (table : List ℕ) (full : Bool) (places : ℕ) (hid : ℕ �
       ))
   serve-ten (Delete (Own n)) e = absurd (omega (arith, skipped 10 (leb (length own) n) NoRow [] Done (omega arith) e .1))
   serve-ten (Insert set) e =
-      let room : List Case = ((leb 8 (length own) && full) gives NoRoom) ∷ [] in
-      let one = skipped 10 (not (within d set)) BadSet ((leb 64 (length own) gives Full) ∷ room) Done (omega arith) e in
-      let two = skipped 10 (leb 64 (length own)) Full room Done (omega arith) (one .1) in
-      let three = applied 10 (leb 8 (length own) && full) NoRoom Done (omega arith) (two .1) in (
+      let room : List Case = ((leb promised (length own) && full) gives NoRoom) ∷ [] in
+      let one = skipped 10 (not (within d set)) BadSet ((leb mostHeld (length own) gives Full) ∷ room) Done (omega arith) e in
+      let two = skipped 10 (leb mostHeld (length own)) Full room Done (omega arith) (one .1) in
+      let three = applied 10 (leb promised (length own) && full) NoRoom Done (omega arith) (two .1) in (
         not-false (within d set) (one .0),
-        leb-true 8 (length own) (and-left (leb 8 (length own)) full three),
-        leb-false 64 (length own) (two .0),
-        and-right (leb 8 (length own)) full three,
+        leb-true promised (length own) (and-left (leb promised (length own)) full three),
+        leb-false mostHeld (length own) (two .0),
+        and-right (leb promised (length own)) full three,
       )
   serve-ten Reset e = absurd (omega arith)
   serve-ten (Look n) e =
@@ -97,37 +98,37 @@ module _ (d : ℕ) (table : List ℕ) (full : Bool) (places : ℕ) (hid : ℕ �
   serve-ten Count e = absurd (omega arith)
   serve-ten Distinct e =
       let a : Answer = Listed (length (kept d (view table hid own))) in
-      let long : Bool = ltb 320 (length (view table hid own)) in
+      let long : Bool = ltb mostInView (length (view table hid own)) in
       absurd (omega (
         arith,
         skipped 10 long LongView [] a (omega arith)
             (skipped 10 (ltb places (length (view table hid own))) ShortList ((long gives LongView) ∷ []) a (omega arith) e .1) .1,
       ))
 
-  pub ten-serve : (c : Call) → properCall d c ≡ true → 8 ≤ length own → length own < 64 → full ≡ true → numberOf (serve d table full places hid own c) ≡ 10
+  pub ten-serve : (c : Call) → properCall d c ≡ true → promised ≤ length own → length own < mostHeld → full ≡ true → numberOf (serve d table full places hid own c) ≡ 10
   unfolding serve properCall decided
   ten-serve (Delete t) p lo hi f = absurd (false≢true p)
-  ten-serve (Insert set) p lo hi f = rw (p, lt-leb 64 (length own) hi, le-leb 8 (length own) lo, f)
+  ten-serve (Insert set) p lo hi f = rw (p, lt-leb mostHeld (length own) hi, le-leb promised (length own) lo, f)
   ten-serve Reset p lo hi f = absurd (false≢true p)
   ten-serve (Look n) p lo hi f = absurd (false≢true p)
   ten-serve Count p lo hi f = absurd (false≢true p)
   ten-serve Distinct p lo hi f = absurd (false≢true p)
 
   -- a desk with fewer than eight rows has its next proper insert accepted
-  pub serve-next : (c : Call) → properCall d c ≡ true → length own < 8 → accepted (serve d table full places hid own c) ≡ true
+  pub serve-next : (c : Call) → properCall d c ≡ true → length own < promised → accepted (serve d table full places hid own c) ≡ true
   unfolding serve properCall decided accepted
   serve-next (Delete t) p h = absurd (false≢true p)
-  serve-next (Insert set) p h = rw (p, lt-leb 64 (length own) (omega arith), lt-leb 8 (length own) h)
+  serve-next (Insert set) p h = rw (p, lt-leb mostHeld (length own) (omega arith), lt-leb promised (length own) h)
   serve-next Reset p h = absurd (false≢true p)
   serve-next (Look n) p h = absurd (false≢true p)
   serve-next Count p h = absurd (false≢true p)
   serve-next Distinct p h = absurd (false≢true p)
 
   -- one with fewer than 64 has it where some free place is not owed
-  pub serve-free : (c : Call) → properCall d c ≡ true → length own < 64 → full ≡ false → accepted (serve d table full places hid own c) ≡ true
+  pub serve-free : (c : Call) → properCall d c ≡ true → length own < mostHeld → full ≡ false → accepted (serve d table full places hid own c) ≡ true
   unfolding serve properCall decided accepted
   serve-free (Delete t) p h f = absurd (false≢true p)
-  serve-free (Insert set) p h f = rw (p, lt-leb 64 (length own) h, f, and-false (leb 8 (length own)))
+  serve-free (Insert set) p h f = rw (p, lt-leb mostHeld (length own) h, f, and-false (leb promised (length own)))
   serve-free Reset p h f = absurd (false≢true p)
   serve-free (Look n) p h f = absurd (false≢true p)
   serve-free Count p h f = absurd (false≢true p)
@@ -138,7 +139,7 @@ module _ (d : ℕ) (table : List ℕ) (full : Bool) (places : ℕ) (hid : ℕ �
   unfolding serve decided
   serve-but-ten (Delete (Table n)) ne = refl
   serve-but-ten (Delete (Own n)) ne = refl
-  serve-but-ten (Insert set) ne = go (not (within d set)) (leb 64 (length own)) (leb 8 (length own)) full ne
+  serve-but-ten (Insert set) ne = go (not (within d set)) (leb mostHeld (length own)) (leb promised (length own)) full ne
     where
       go : (a b c f : Bool) → let tests : Bool → Answer = λ x. decided Refused ((a gives BadSet) ∷ (b gives Full) ∷ ((c && x) gives NoRoom) ∷ []) Done in
           numberOf (tests f) ≢ 10 → tests f ≡ tests false

@@ -7,6 +7,7 @@ use native.Mathlib.Omega.{arith}
 use lib.Dec.{eqb, ltb}
 use lib.ListN.{length}
 use borrow.Author.Tests.{ltb-false}
+use Rattle.sets.specs.Limits.{mostDesks, mostHeld, mostPlaces, mostRows, mostValues, promised}
 use Rattle.theory.specs.Pairings.{at}
 use Rattle.sets.specs.Tables.{badRow}
 use Rattle.sets.proofs.BadRows.{bad-row-none}
@@ -27,15 +28,15 @@ use Rattle.store.proofs.ViewRows.{within-those, within-view}
 
 -- the limits that the code leans on
 pub record Limits (d : ℕ) (table : List ℕ) (s : Sheet) (counts : List ℕ) (k : ℕ) : Type 0 where
-  pub desk : k < 32
-  pub desks : s .desks ≤ 32
-  pub table-rows : length table ≤ 256
-  pub values : d ≤ 64
-  pub used : s .used ≤ 512
-  pub promise : s .used + owed s ≤ 512
-  pub share : held s k ≤ 64
+  pub desk : k < mostDesks
+  pub desks : s .desks ≤ mostDesks
+  pub table-rows : length table ≤ mostRows
+  pub values : d ≤ mostValues
+  pub used : s .used ≤ mostPlaces
+  pub promise : s .used + owed s ≤ mostPlaces
+  pub share : held s k ≤ mostHeld
   pub mine : at counts k ≡ length (own s k)
-  pub owes : sumTo (λ j. 8 - at counts j) (s .desks) ≡ owed s
+  pub owes : sumTo (λ j. promised - at counts j) (s .desks) ≡ owed s
 
 module _ (d : ℕ) (table : List ℕ) (s : Sheet) (counts : List ℕ) (k : ℕ) (T : Trusted d table s counts k) where
   pub limits : Limits d table s counts k
@@ -43,20 +44,20 @@ module _ (d : ℕ) (table : List ℕ) (s : Sheet) (counts : List ℕ) (k : ℕ) 
   limits =
       let S = sound-parts s (T .sheet-right) in
       let there = T .desk-there in
-      let large = passed (eqb d zero || ltb 64 d || ltb 256 (length table)) TooLarge (badCase (badRow d table) ∷ []) Done (T .table-right) .0 in
-      let rows = or-no (eqb d zero || ltb 64 d) (ltb 256 (length table)) large in
-      let values = or-no (eqb d zero) (ltb 64 d) (rows .0) in
+      let large = passed (eqb d zero || ltb mostValues d || ltb mostRows (length table)) TooLarge (badCase (badRow d table) ∷ []) Done (T .table-right) .0 in
+      let rows = or-no (eqb d zero || ltb mostValues d) (ltb mostRows (length table)) large in
+      let values = or-no (eqb d zero) (ltb mostValues d) (rows .0) in
       let few = S .few-desks in
       record {
         desk = omega arith;
         desks = few;
-        table-rows = ltb-false 256 (length table) (rows .1);
-        values = ltb-false 64 d (values .1);
+        table-rows = ltb-false mostRows (length table) (rows .1);
+        values = ltb-false mostValues d (values .1);
         used = S .places;
         promise = S .promise;
         share = S .share k there;
         mine = T .counted k (omega arith) ∙ sym (length-own s k);
-        owes = sum-ext (λ j. 8 - at counts j) (λ j. 8 - held s j) (s .desks) (λ j h. ap (λ (n : ℕ). 8 - n) (T .counted j (omega arith)));
+        owes = sum-ext (λ j. promised - at counts j) (λ j. promised - held s j) (s .desks) (λ j h. ap (λ (n : ℕ). promised - n) (T .counted j (omega arith)));
       }
 
   -- every row of the desk's view is one of the column
@@ -64,7 +65,7 @@ module _ (d : ℕ) (table : List ℕ) (s : Sheet) (counts : List ℕ) (k : ℕ) 
   unfolding tableCases
   in-column same =
       let S = sound-parts s (T .sheet-right) in
-      let large = passed (eqb d zero || ltb 64 d || ltb 256 (length table)) TooLarge (badCase (badRow d table) ∷ []) Done (T .table-right) in
+      let large = passed (eqb d zero || ltb mostValues d || ltb mostRows (length table)) TooLarge (badCase (badRow d table) ∷ []) Done (T .table-right) in
       let bad = passed (badCase (badRow d table) .applies) (badCase (badRow d table) .refusal) [] Done (large .1) .0 in
       record {
         column = limits .values;

@@ -7,6 +7,7 @@ use native.Mathlib.Omega.{arith}
 use lib.Dec.{eqb, leb, ltb}
 use lib.ListN.{length, length-append}
 use borrow.Author.Tests.{ltb-true, ltb-false, leb-false, not-false}
+use Rattle.sets.specs.Limits.{mostHeld, mostInView, mostRows, mostValues, promised}
 use Rattle.theory.specs.Pairings.{at}
 use Rattle.theory.specs.Kept.{kept}
 use Rattle.sets.specs.declared.Found.{Found}
@@ -40,17 +41,17 @@ view-most table hid own =
     let f : ℕ → Bool = λ i. not (hid i) in
     omega (arith, length-append (those f table (length table)) own, length-those f table (length table), count-le f (length table))
 
-module _ (d : ℕ) (table : List ℕ) (full : Bool) (places : ℕ) (hid : ℕ → Bool) (own : List ℕ) (small : length table ≤ 256) (few : length own ≤ 64) where
+module _ (d : ℕ) (table : List ℕ) (full : Bool) (places : ℕ) (hid : ℕ → Bool) (own : List ℕ) (small : length table ≤ mostRows) (few : length own ≤ mostHeld) where
   not-served : (c : Call) → numberOf (serve d table full places hid own c) ≢ 12
   unfolding serve decided
   not-served (Delete (Table n)) e =
       omega (arith, skipped 12 (hid n) HiddenAlready [] Done (omega arith) (skipped 12 (leb (length table) n) NoRow ((hid n gives HiddenAlready) ∷ []) Done (omega arith) e .1) .1)
   not-served (Delete (Own n)) e = omega (arith, skipped 12 (leb (length own) n) NoRow [] Done (omega arith) e .1)
   not-served (Insert set) e =
-      let room : List Case = ((leb 8 (length own) && full) gives NoRoom) ∷ [] in
-      let one = skipped 12 (not (within d set)) BadSet ((leb 64 (length own) gives Full) ∷ room) Done (omega arith) e in
-      let two = skipped 12 (leb 64 (length own)) Full room Done (omega arith) (one .1) in
-      omega (arith, skipped 12 (leb 8 (length own) && full) NoRoom [] Done (omega arith) (two .1) .1)
+      let room : List Case = ((leb promised (length own) && full) gives NoRoom) ∷ [] in
+      let one = skipped 12 (not (within d set)) BadSet ((leb mostHeld (length own) gives Full) ∷ room) Done (omega arith) e in
+      let two = skipped 12 (leb mostHeld (length own)) Full room Done (omega arith) (one .1) in
+      omega (arith, skipped 12 (leb promised (length own) && full) NoRoom [] Done (omega arith) (two .1) .1)
   not-served Reset e = omega arith
   not-served (Look n) e =
       omega (arith, skipped 12 (leb (length (view table hid own)) n) NoRow [] (Seen (at (view table hid own) n)) (omega arith) e .1)
@@ -58,8 +59,8 @@ module _ (d : ℕ) (table : List ℕ) (full : Bool) (places : ℕ) (hid : ℕ �
   not-served Distinct e =
       let rows = length (view table hid own) in
       let a : Answer = Listed (length (kept d (view table hid own))) in
-      let short = skipped 12 (ltb places rows) ShortList ((ltb 320 rows gives LongView) ∷ []) a (omega arith) e in
-      omega (arith, ltb-true 320 rows (applied 12 (ltb 320 rows) LongView a (omega arith) (short .1)), view-most table hid own)
+      let short = skipped 12 (ltb places rows) ShortList ((ltb mostInView rows gives LongView) ∷ []) a (omega arith) e in
+      omega (arith, ltb-true mostInView rows (applied 12 (ltb mostInView rows) LongView a (omega arith) (short .1)), view-most table hid own)
 
 not-bad : (f : Found) → number (badCase f .refusal) ≢ 12
 not-bad Nothing = omega arith
@@ -74,12 +75,12 @@ never-twelve d table s k c places e =
     let other : Bool = not (eqb (s .d) d && eqb (s .rows) (length table)) in
     let sheet : List Case = (not (sound s) gives Unsound) ∷ (other gives OtherTable) ∷ desk in
     let bad = badCase (badRow d table) in
-    let one = skipped 12 (eqb d zero || ltb 64 d || ltb 256 (length table)) TooLarge (bad ∷ sheet) a (omega arith) e in
+    let one = skipped 12 (eqb d zero || ltb mostValues d || ltb mostRows (length table)) TooLarge (bad ∷ sheet) a (omega arith) e in
     let two = skipped 12 (bad .applies) (bad .refusal) sheet a (not-bad (badRow d table)) (one .1) in
     let three = skipped 12 (not (sound s)) Unsound ((other gives OtherTable) ∷ desk) a (omega arith) (two .1) in
     let four = skipped 12 other OtherTable desk a (omega arith) (three .1) in
     let five = skipped 12 (leb (s .desks) k) NoDesk [] a (omega arith) (four .1) in
-    let small = ltb-false 256 (length table) (or-no (eqb d zero || ltb 64 d) (ltb 256 (length table)) (one .0) .1) in
+    let small = ltb-false mostRows (length table) (or-no (eqb d zero || ltb mostValues d) (ltb mostRows (length table)) (one .0) .1) in
     let held = sound-parts s (not-false (sound s) (three .0)) .share k (leb-false (s .desks) k (five .0)) in
     not-served d table (crowded s) places (hides (s .marks) k) (own s k) small (omega (arith, length-own s k)) c (five .1)
 

@@ -10,6 +10,7 @@ use lib.Dec.{eqb, leb, ltb}
 use lib.Pow.{pow-lt}
 use lib.ListN.{length, take, drop, length-append, length-take, length-drop}
 use borrow.Author.Tests.{lt-ltb, ltb-true, lt-leb, leb-false, eq-eqb, ne-eqb}
+use Rattle.sets.specs.Limits.{mostHeld, mostPlaces, promised}
 use Rattle.theory.specs.Pairings.{at}
 use Rattle.sets.specs.Sets.{below, within}
 use Rattle.sets.proofs.Bools.{and-left, and-right, and-both, not-both}
@@ -192,16 +193,16 @@ module _ {d : ℕ} {table : List ℕ} {desks : ℕ} {tell : Store} (begun : acce
 
   -- ---- an insert that looks at the 512 places alone: what is owed to desks with fewer than eight rows is kept for them
 
-  pub no-insert-takes-what-is-owed : (past : List Turn) (t : Turn) → proper d desks t ≡ true → 8 ≤ heldBy tell (t .desk) past → heldBy tell (t .desk) past < 64
-      → usedBy tell desks past + owedBy tell desks past ≡ 512 → tell past t ≡ record { answer = Refused NoRoom; list = t .list }
+  pub no-insert-takes-what-is-owed : (past : List Turn) (t : Turn) → proper d desks t ≡ true → promised ≤ heldBy tell (t .desk) past → heldBy tell (t .desk) past < mostHeld
+      → usedBy tell desks past + owedBy tell desks past ≡ mostPlaces → tell past t ≡ record { answer = Refused NoRoom; list = t .list }
   no-insert-takes-what-is-owed past t p lo hi full =
       let ten = keeps .no-room past t .1 (p, lo, hi, full) in
       λ i. record { answer = ten-is (tell past t .answer) ten i; list = keeps .no-room-list past t ten i }
 
   -- ---- a freed place that is lost: 'A freed place can be used by the next insert of any desk that the rules allow', whoever freed it
 
-  pub no-freed-place-is-lost : (past : List Turn) (t : Turn) → proper d desks t ≡ true → heldBy tell (t .desk) past < 64
-      → usedBy tell desks past + owedBy tell desks past < 512 → accepted (tell past t .answer) ≡ true
+  pub no-freed-place-is-lost : (past : List Turn) (t : Turn) → proper d desks t ≡ true → heldBy tell (t .desk) past < mostHeld
+      → usedBy tell desks past + owedBy tell desks past < mostPlaces → accepted (tell past t .answer) ≡ true
   unfolding proper alone decided
   no-freed-place-is-lost past t p few room =
       let not-ten : numberOf (tell past t .answer) ≢ 10 = λ e. absurd (omega (arith, keeps .no-room past t .0 e .3)) in
@@ -210,7 +211,7 @@ module _ {d : ℕ} {table : List ℕ} {desks : ℕ} {tell : Store} (begun : acce
       ∙ (rw (lt-leb desks (t .desk) (ltb-true (t .desk) desks (and-left (ltb (t .desk) desks) (properCall d (t .call)) p)))
       (serve-free d table false (length (t .list)) (member (hiddenIn h)) (ownIn h) (t .call) (and-right (ltb (t .desk) desks) (properCall d (t .call)) p) few refl))
 
-  pub owed-is-kept : (past : List Turn) → usedBy tell desks past + owedBy tell desks past ≤ 512
+  pub owed-is-kept : (past : List Turn) → usedBy tell desks past + owedBy tell desks past ≤ mostPlaces
   owed-is-kept past =
       let good = good-parts d table desks begun in
       let ours = classStore d table desks in
@@ -218,7 +219,7 @@ module _ {d : ℕ} {table : List ℕ} {desks : ℕ} {tell : Store} (begun : acce
       omega (
         arith,
         sum-ext (λ k. heldBy tell k past) (λ k. heldBy ours k past) desks (λ k h. held k),
-        sum-ext (λ k. 8 - heldBy tell k past) (λ k. 8 - heldBy ours k past) desks (λ k h. ap (λ (x : ℕ). 8 - x) (held k)),
+        sum-ext (λ k. promised - heldBy tell k past) (λ k. promised - heldBy ours k past) desks (λ k h. ap (λ (x : ℕ). promised - x) (held k)),
         used-is good past,
         owed-is good past,
         sound-parts (sheetOn d table desks past) (reached good past .stays-sound) .promise,

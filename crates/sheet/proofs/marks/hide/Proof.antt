@@ -2,6 +2,8 @@
 use Prim.Native.Nat.{ℕ, _+_, _*_, _/_}
 use mathlib.Core.Path.{ap}
 use lib.ListN.{set}
+use Rattle.sheet.specs.Sheets.{markWords}
+use Rattle.sets.specs.Limits.{wordBits}
 use Rattle.sheet.specs.Changes.{hide}
 use borrow.Author.Needs.{needs}
 use Rattle.sheet.proofs.marks.hide.Statement.{statement}
@@ -30,7 +32,7 @@ element-write-marks c = search needs
 
 returns : tie.Need-returns
 unfolding hide
-returns c = ap (λ (word : ℕ). set (c .before .before .args .marks .now) (c .before .before .args .desk * 4 + c .before .before .args .n / 64) word) (c .with .ensures)
+returns c = ap (λ (word : ℕ). set (c .before .before .args .marks .now) (c .before .before .args .desk * markWords + c .before .before .args .n / wordBits) word) (c .with .ensures)
 
 pub hide-spec : {M : Type 1} → statement M
 hide-spec =

@@ -5,6 +5,7 @@ use native.Mathlib.Numerals.{unary-clauses}
 use native.Mathlib.Omega.{arith}
 use borrow.Author.Tests.{not-true, not-false}
 use borrow.Author.Needs.{needs}
+use Rattle.sheet.specs.Sheets.{allMarks}
 use Rattle.sheet.proofs.Markings.{Marked, marked-start, marked-wrong, marked-more, marked-all}
 use Rattle.sheet.proofs.marks.marks_right.Statement.{statement}
 use Rattle.sheet.proofs.marks.marks_right.Tie as tie
@@ -13,7 +14,7 @@ abbrev Inv-loop : tie.InvT-loop
 Inv-loop desks rows marks next₀ next = Marked desks rows marks next
 
 abbrev μ-loop : tie.MeasureT-loop
-μ-loop desks rows marks next₀ next = 128 - next
+μ-loop desks rows marks next₀ next = allMarks - next
 
 loop-holds : tie.Need-loop-holds Inv-loop μ-loop
 loop-holds c = marked-start (c .before .args .desks) (c .before .args .rows) (c .before .args .marks .now)

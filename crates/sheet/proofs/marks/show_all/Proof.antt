@@ -6,15 +6,16 @@ use native.Mathlib.Numerals.{unary-clauses}
 use native.Mathlib.Omega.{arith}
 use borrow.Author.Needs.{needs}
 use lib.ListN.{set}
+use Rattle.sheet.specs.Sheets.{markWords}
 use Rattle.sheet.specs.Changes.{wiped}
 use Rattle.sheet.proofs.marks.show_all.Statement.{statement}
 use Rattle.sheet.proofs.marks.show_all.Tie as tie
 
 abbrev Inv-loop : tie.InvT-loop
-Inv-loop marks₀ desk first next₀ marks next = (next ≤ 4) × (marks ≡ wiped marks₀ (desk * 4) next)
+Inv-loop marks₀ desk first next₀ marks next = (next ≤ markWords) × (marks ≡ wiped marks₀ (desk * markWords) next)
 
 abbrev μ-loop : tie.MeasureT-loop
-μ-loop marks₀ desk first next₀ marks next = 4 - next
+μ-loop marks₀ desk first next₀ marks next = markWords - next
 
 mul-first : tie.Need-mul-first Inv-loop μ-loop
 mul-first c = search needs
@@ -40,10 +41,10 @@ loop-less c = search needs
 
 loop-again : tie.Need-loop-again Inv-loop μ-loop
 unfolding wiped
-loop-again c = (omega arith, simp unary-clauses (ap (λ (ms : List ℕ). set ms (c .before .before .args .desk * 4 + c .before .loop .next) zero) (c .before .loop .inv .1)))
+loop-again c = (omega arith, simp unary-clauses (ap (λ (ms : List ℕ). set ms (c .before .before .args .desk * markWords + c .before .loop .next) zero) (c .before .loop .inv .1)))
 
 returns : tie.Need-returns Inv-loop μ-loop
-returns c = c .before .loop .inv .1 ∙ ap (wiped (c .before .before .args .marks .now) (c .before .before .args .desk * 4)) (omega (arith, c .before .loop .inv .0))
+returns c = c .before .loop .inv .1 ∙ ap (wiped (c .before .before .args .marks .now) (c .before .before .args .desk * markWords)) (omega (arith, c .before .loop .inv .0))
 
 pub show-all-spec : {M : Type 1} → statement M
 show-all-spec =

@@ -2,6 +2,7 @@
 use Prim.Native.Nat.{_-_}
 use native.Mathlib.Numerals.{unary-clauses}
 use borrow.Author.Needs.{needs}
+use Rattle.sets.specs.Limits.{mostPlaces}
 use Rattle.sheet.proofs.Surveying.{Spare, spare-start, spare-more, spare-owner, spare-set, spare-all}
 use Rattle.sheet.proofs.places.rest_empty.Statement.{statement}
 use Rattle.sheet.proofs.places.rest_empty.Tie as tie
@@ -10,7 +11,7 @@ abbrev Inv-loop : tie.InvT-loop
 Inv-loop used sets owners next₀ next = Spare used sets owners next
 
 abbrev μ-loop : tie.MeasureT-loop
-μ-loop used sets owners next₀ next = 512 - next
+μ-loop used sets owners next₀ next = mostPlaces - next
 
 loop-holds : tie.Need-loop-holds Inv-loop μ-loop
 loop-holds c = spare-start (c .args .used) (c .args .sets .now) (c .args .owners .now)

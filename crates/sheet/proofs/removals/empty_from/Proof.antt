@@ -5,16 +5,17 @@ use native.Mathlib.Numerals.{unary-clauses}
 use native.Mathlib.Omega.{arith}
 use borrow.Author.Needs.{needs}
 use lib.ListN.{length, length-set}
+use Rattle.sets.specs.Limits.{mostPlaces}
 use Rattle.sheet.proofs.ClosingPass.{Emptying, emptying-start, emptying-more, emptying-done}
 use Rattle.sheet.proofs.removals.empty_from.Statement.{statement}
 use Rattle.sheet.proofs.removals.empty_from.Tie as tie
 
 abbrev Inv-loop : tie.InvT-loop
 Inv-loop left sets₀ owners₀ next₀ sets owners next =
-    (left ≤ next) × (next ≤ 512) × Emptying left next sets₀ sets × Emptying left next owners₀ owners × (length sets ≡ 512) × (length owners ≡ 512)
+    (left ≤ next) × (next ≤ mostPlaces) × Emptying left next sets₀ sets × Emptying left next owners₀ owners × (length sets ≡ mostPlaces) × (length owners ≡ mostPlaces)
 
 abbrev μ-loop : tie.MeasureT-loop
-μ-loop left sets₀ owners₀ next₀ sets owners next = 512 - next
+μ-loop left sets₀ owners₀ next₀ sets owners next = mostPlaces - next
 
 loop-holds : tie.Need-loop-holds Inv-loop μ-loop
 loop-holds c = let a = c .args in (omega arith, c .pre .0, emptying-start (a .left) (a .sets .now), emptying-start (a .left) (a .owners .now), c .pre .1, c .pre .2)
@@ -59,7 +60,7 @@ returns : tie.Need-returns Inv-loop μ-loop
 returns c =
     let l = c .before .loop in
     let p = c .before .before .pre in
-    let all : l .next ≡ 512 = omega (arith, l .inv .1, c .loop-test .left) in
+    let all : l .next ≡ mostPlaces = omega (arith, l .inv .1, c .loop-test .left) in
     (emptying-done (l .inv .2) (p .1) (l .inv .0) all, emptying-done (l .inv .3) (p .2) (l .inv .0) all)
 
 pub empty-from-spec : {M : Type 1} → statement M
