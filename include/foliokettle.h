@@ -1,22 +1,51 @@
-/* The store for hosts in C: what `rt staticlib host` exports (crates/host). A slice is a pointer and a length. Nothing
-   has to be promised about tables, sheets, desks, numbers or list lengths: bad ones are refused by number. Pointers
-   have to be valid for their lengths, as always in C, and the lent table, list and sheet lie apart from each other. */
+/* The store for hosts in C and C++: what `rt staticlib host` puts into libhost.a (crate `host`), which is for x86-64
+   Linux and wants nothing but memcpy and memset. docs/HANDBOOK.md tells what the calls do.
+
+   What a host has to see to:
+   - Pointers are valid for their lengths, which count elements; NULL will do where the length is 0. The table, the list
+     and the sheet that are lent to a call lie apart from each other.
+   - FOLIOKETTLE_STACK bytes of stack are left on the thread that calls.
+   - A pupil calls from his own desk, on the sheet of his own class: the store can't know who asks.
+   Nothing has to be promised about tables, sheets, desks, numbers or list lengths: bad ones are refused by number. The
+   library keeps nothing between calls, so threads may call at once, as long as none writes what another uses. */
 #ifndef FOLIOKETTLE_H
 #define FOLIOKETTLE_H
 
+#include <assert.h>
 #include <stddef.h>
 #include <stdint.h>
 
-/* The class sheet. `foliokettle_begin` makes it; then it is handed in and handed back, or altered in place. Desk k's
-   marks are the four words from 4 k on. */
+#ifdef __cplusplus
+extern "C" {
+#endif
+
+/* The limits. */
+enum {
+    FOLIOKETTLE_VALUES = 64,  /* of a column */
+    FOLIOKETTLE_ROWS = 256,   /* of a table */
+    FOLIOKETTLE_DESKS = 32,   /* of a class */
+    FOLIOKETTLE_PLACES = 512, /* for the rows that a class puts in */
+    FOLIOKETTLE_HELD = 64,    /* own rows that a desk may hold */
+    FOLIOKETTLE_PROMISED = 8, /* own rows that a desk always has room for */
+    FOLIOKETTLE_VIEW = FOLIOKETTLE_ROWS + FOLIOKETTLE_HELD,   /* rows of a view: so many places do for any list */
+    FOLIOKETTLE_WORDS = FOLIOKETTLE_ROWS / FOLIOKETTLE_VALUES /* of a desk's marks */
+};
+
+/* Bytes of stack that are enough for any call. 60 KB were measured; `bench/run stack` measures again. */
+#define FOLIOKETTLE_STACK (128 * 1024)
+
+/* The class sheet. `foliokettle_begin` makes it; then it is handed in and handed back, or altered in place. A set is a
+   number whose bit v stands for the value v. Table row n is hidden at desk k where bit n % 64 of the word
+   marks[FOLIOKETTLE_WORDS * k + n / 64] is 1. The first `used` places hold the rows put in, each with its desk. */
 typedef struct {
     size_t d, rows, desks, used;
-    uint64_t marks[128];
-    uint64_t sets[512];
-    size_t owners[512];
+    uint64_t marks[FOLIOKETTLE_DESKS * FOLIOKETTLE_WORDS];
+    uint64_t sets[FOLIOKETTLE_PLACES];
+    size_t owners[FOLIOKETTLE_PLACES];
 } foliokettle_sheet;
 
-/* The refusal number, 0 where the call is accepted, and the values that the answer returns. */
+/* `refusal` is 0 where the call is accepted; then `first` and `second` are what it answers, 0 where it answers less.
+   Where it is refused, both are 0, but for FOLIOKETTLE_BAD_ROW: then `first` is the row. */
 typedef struct {
     uint64_t refusal, first, second;
 } foliokettle_told;
@@ -31,26 +60,73 @@ enum {
     FOLIOKETTLE_DELETE_TABLE, /* hides table row n */
     FOLIOKETTLE_DELETE_OWN,   /* takes out own row n */
     FOLIOKETTLE_INSERT,       /* puts in the set n */
-    FOLIOKETTLE_RESET,
-    FOLIOKETTLE_LOOK,    /* answers the set at position n of the view */
-    FOLIOKETTLE_COUNT,   /* answers the rows of the view and the own rows */
-    FOLIOKETTLE_DISTINCT /* fills the front of the list with the kept positions and answers their number */
+    FOLIOKETTLE_RESET,        /* shows all table rows again and takes out all own rows */
+    FOLIOKETTLE_LOOK,         /* answers the set at position n of the view */
+    FOLIOKETTLE_COUNT,        /* answers the rows of the view and the own rows */
+    FOLIOKETTLE_DISTINCT      /* fills the front of the list with the kept positions and answers their number */
 };
 
-/* The refusal of a kind that is none of these. */
+/* Why a call is refused: the lowest number that applies. A refused call changes no sheet and no list. */
+enum {
+    FOLIOKETTLE_TOO_LARGE = 1,  /* d is 0 or above 64, or the table has over 256 rows */
+    FOLIOKETTLE_BAD_ROW,        /* a table row is empty or has a value d or above; the lowest such row is told */
+    FOLIOKETTLE_UNSOUND,        /* the sheet is damaged, or of a begin that was refused */
+    FOLIOKETTLE_OTHER_TABLE,    /* the sheet was begun with another d, or for another number of table rows */
+    FOLIOKETTLE_NO_DESK,        /* desks count from 0 */
+    FOLIOKETTLE_NO_ROW,         /* there is no such table row, own row or position */
+    FOLIOKETTLE_HIDDEN_ALREADY, /* the table row, at this desk */
+    FOLIOKETTLE_BAD_SET,        /* the new set is empty or has a value d or above */
+    FOLIOKETTLE_FULL,           /* the desk holds 64 rows */
+    FOLIOKETTLE_NO_ROOM,        /* the desk has its promised 8, and the free places are promised to others */
+    FOLIOKETTLE_SHORT_LIST,     /* the list has fewer places than the view has rows */
+    FOLIOKETTLE_LONG_VIEW,      /* the view has over 320 rows; never given, since 256 and 64 are 320 */
+    FOLIOKETTLE_BAD_DESKS       /* desks is 0 or above 32 */
+};
+
+/* The refusal of a kind that is none of the above, before anything else is looked at. */
 #define FOLIOKETTLE_NO_CALL UINT64_MAX
 
+/* A class begins, on a table over the values 0 to d - 1. Where that is refused, with 1, 2 or 13, the sheet is all
+   zeros, which no call accepts: look at what is told before going on. */
 foliokettle_handed foliokettle_begin(const uint64_t *table, size_t rows, size_t d, size_t desks);
 
+/* A desk calls. The host's sheet is only read, and the next one is handed back. Only a DISTINCT that is accepted writes
+   to the list, and only to as many places as it answers; the other calls do without one. */
 foliokettle_handed foliokettle_call(const uint64_t *table, size_t rows, size_t d, foliokettle_sheet sheet, size_t desk,
                                     uint64_t kind, uint64_t n, size_t *list, size_t places);
 
-/* The same for a host that keeps a single sheet: the sheet becomes the one that `foliokettle_call` hands back. */
+/* The same for a host that keeps a single sheet: the sheet becomes the one that `foliokettle_call` hands back. Every
+   call stores the whole sheet; a question, or a call that is refused, stores the bytes that were there. So the sheet
+   can't lie in read-only memory, and two calls at once on one sheet are a race, even where both only look. */
 foliokettle_told foliokettle_alter(foliokettle_sheet *sheet, const uint64_t *table, size_t rows, size_t d, size_t desk,
                                    uint64_t kind, uint64_t n, size_t *list, size_t places);
 
 /* DISTINCT over a view that belongs to no desk: the kept positions go to the front of the list, and `first` is their
-   number. The view is judged as a table of at most 320 rows, by refusals 1 and 2 (`first` is then the row), and by 11. */
+   number. The view is judged as a table is, but for 320 rows in the place of 256: it is refused with 1, with 2, where
+   `first` is the row, or with 11. */
 foliokettle_told foliokettle_distinct(size_t d, const uint64_t *view, size_t rows, size_t *list, size_t places);
+
+/* The library lays the structs out so, and no compiler may do otherwise. */
+#define FOLIOKETTLE_AT(type, field, place) static_assert(offsetof(type, field) == (place), #type ": " #field)
+FOLIOKETTLE_AT(foliokettle_sheet, d, 0);
+FOLIOKETTLE_AT(foliokettle_sheet, rows, 8);
+FOLIOKETTLE_AT(foliokettle_sheet, desks, 16);
+FOLIOKETTLE_AT(foliokettle_sheet, used, 24);
+FOLIOKETTLE_AT(foliokettle_sheet, marks, 32);
+FOLIOKETTLE_AT(foliokettle_sheet, sets, 1056);
+FOLIOKETTLE_AT(foliokettle_sheet, owners, 5152);
+static_assert(sizeof(foliokettle_sheet) == 9248, "foliokettle_sheet");
+FOLIOKETTLE_AT(foliokettle_told, refusal, 0);
+FOLIOKETTLE_AT(foliokettle_told, first, 8);
+FOLIOKETTLE_AT(foliokettle_told, second, 16);
+static_assert(sizeof(foliokettle_told) == 24, "foliokettle_told");
+FOLIOKETTLE_AT(foliokettle_handed, told, 0);
+FOLIOKETTLE_AT(foliokettle_handed, sheet, 24);
+static_assert(sizeof(foliokettle_handed) == 9272, "foliokettle_handed");
+#undef FOLIOKETTLE_AT
+
+#ifdef __cplusplus
+}
+#endif
 
 #endif
