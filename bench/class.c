@@ -1,9 +1,10 @@
 /* Measures the proved desk calls against the unproved ones of class_peer.c, in one process, on a full class: 32 desks,
    512 places, 256 table rows. First both must answer the same and leave the same sheets and lists, over long drawn
-   lessons with damaged sheets among them; then the times of a call are printed: of the calls that hand back a sheet, as
-   the request asks, beside C that does so (a copy and a call in place), and of the calls in place beside C in place.
-   Before each call in place the sheet is copied anew, on both sides, and the time of the copy is taken off.
-   Built with COUNT_BYTES it counts instead: the bytes that one call copies and clears, which no noise touches. */
+   lessons with damaged sheets and other tables among them; then the times of a call are printed: of the calls that hand
+   back a sheet, as the request asks, beside C that does so (a copy and a call in place), and of the calls in place
+   beside C in place. Before each call in place the sheet is copied anew, on both sides, and the time of the copy is
+   taken off. Built with COUNT_BYTES it counts instead: the bytes that one call copies and clears, which no noise
+   touches. With a number it plays that many lessons and measures nothing. */
 #define _POSIX_C_SOURCE 200809L
 #include "class_peer.h"
 
@@ -12,7 +13,7 @@
 #include <string.h>
 #include <time.h>
 
-enum { ROWS = 256, DESKS = 32, PLACES = 320, LESSONS = 60, TURNS = 4000 };
+enum { ROWS = FOLIOKETTLE_ROWS, DESKS = FOLIOKETTLE_DESKS, PLACES = FOLIOKETTLE_VIEW, LESSONS = 60, TURNS = 4000 };
 
 /* ---- drawing */
 
@@ -48,6 +49,16 @@ static void fail(const char *what)
     exit(1);
 }
 
+/* A class of ours that begins. The peer has no begin of its own: it is a sheet with three numbers. */
+static foliokettle_sheet begin(const uint64_t *table, size_t rows, size_t d, size_t desks)
+{
+    foliokettle_handed handed = foliokettle_begin(table, rows, d, desks);
+    foliokettle_sheet fresh = {.d = d, .rows = rows, .desks = desks};
+    if (handed.told.refusal != 0 || handed.told.first != 0 || handed.told.second != 0) fail("answers of begin");
+    if (memcmp(&handed.sheet, &fresh, sizeof fresh) != 0) fail("fresh sheets");
+    return fresh;
+}
+
 /* One call on both sides, and on ours in both ways. The sheet becomes what ours hands back. */
 static void turn(const uint64_t *table, size_t rows, size_t d, foliokettle_sheet *sheet, size_t desk, uint64_t kind,
                  uint64_t n, size_t places)
@@ -67,13 +78,14 @@ static void turn(const uint64_t *table, size_t rows, size_t d, foliokettle_sheet
     *sheet = handed.sheet;
 }
 
-/* A lesson of drawn calls, most of them sensible. Every so often a damaged sheet is tried, and then put aside. */
+/* A lesson of drawn calls, most of them sensible. Every so often a damaged sheet is tried, or another number of values
+   or of rows for the table, on a sheet that is then put aside. */
 static void lesson(void)
 {
     size_t d = 1 + draw_below(64), rows = draw_below(ROWS + 1), desks = 1 + draw_below(DESKS);
-    uint64_t table[ROWS];
-    for (size_t i = 0; i < rows; i++) table[i] = draw_row(d);
-    foliokettle_sheet sheet = foliokettle_begin(table, rows, d, desks).sheet;
+    uint64_t table[ROWS + 8];
+    for (size_t i = 0; i < ROWS + 8; i++) table[i] = draw_row(d);
+    foliokettle_sheet sheet = begin(table, rows, d, desks);
     for (size_t t = 0; t < TURNS; t++) {
         static const uint64_t often[] = {2, 2, 2, 2, 0, 0, 1, 4, 5, 6};
         uint64_t kind = draw_below(50) == 0 ? draw_below(9) : often[draw_below(10)];
@@ -88,6 +100,11 @@ static void lesson(void)
             ((uint64_t *)&damaged)[draw_below(sizeof damaged / 8)] = draw_below(2) ? draw() : draw_below(70);
             turn(table, rows, d, &damaged, desk, kind, n, places);
         }
+        if (draw_below(20) == 0) {
+            foliokettle_sheet aside = sheet;
+            size_t other_d = draw_below(2) ? d : draw_below(FOLIOKETTLE_VALUES + 4);
+            turn(table, draw_below(ROWS + 9), other_d, &aside, desk, kind, n, places);
+        }
     }
 }
 
@@ -99,12 +116,12 @@ static foliokettle_sheet full;
 static void fill_class(void)
 {
     for (size_t i = 0; i < ROWS; i++) table[i] = draw_row(64);
-    full = foliokettle_begin(table, ROWS, 64, DESKS).sheet;
-    for (size_t i = 0; i < 512; i++)
+    full = begin(table, ROWS, 64, DESKS);
+    for (size_t i = 0; i < FOLIOKETTLE_PLACES; i++)
         turn(table, ROWS, 64, &full, i % DESKS, FOLIOKETTLE_INSERT, draw_row(64), 0);
     for (size_t i = 0; i < 1024; i++)
         turn(table, ROWS, 64, &full, draw_below(DESKS), FOLIOKETTLE_DELETE_TABLE, draw_below(ROWS), 0);
-    if (full.used != 512) fail("the full class and the plan");
+    if (full.used != FOLIOKETTLE_PLACES) fail("the full class and the plan");
 }
 
 /* ---- what is measured */
@@ -122,8 +139,8 @@ static volatile uint64_t sink;
 
 #ifdef COUNT_BYTES
 
-/* ---- bytes: memcpy, memmove and memset are wrapped by the linker. A sheet that is handed on once more shows as one sheet
-   more, and then the count fails. The host's own copy of the sheet into the call is counted with the call. */
+/* ---- bytes: memcpy, memmove and memset are wrapped by the linker. A sheet that is handed on once more shows as one
+   sheet more, and then the count fails. The host's own copy of the sheet into the call is counted with the call. */
 
 /* Into the call, into its own arrays and back; in place there is one more, since the entry takes the sheet apart. */
 enum { MOST_CALL = 3, MOST_ALTER = 4 };
@@ -269,11 +286,14 @@ static int measured_well(void)
 
 #endif
 
-int main(void)
+int main(int argc, char **argv)
 {
-    for (int i = 0; i < LESSONS; i++) lesson();
-    printf("class: %d lessons of %d turns, and damaged sheets: answers, sheets and lists are the same\n", LESSONS, TURNS);
+    int lessons = argc > 1 ? atoi(argv[1]) : LESSONS;
+    for (int i = 0; i < lessons; i++) lesson();
     fill_class();
+    printf("class: %d lessons of %d turns, damaged sheets and other tables: answers, sheets and lists are the same\n",
+           lessons, TURNS);
+    if (argc > 1) return 0;
     size_t hid = 0;
     while (full.marks[0] >> hid & 1) hid++;
     const measured calls[] = {
@@ -291,8 +311,7 @@ int main(void)
     for (size_t i = 0; i < sizeof calls / sizeof calls[0]; i++) {
         measured m = calls[i];
         if (m.kind == FOLIOKETTLE_LOOK) {
-            foliokettle_handed counted = foliokettle_call(table, ROWS, 64, full, m.desk, FOLIOKETTLE_COUNT, 0, list, PLACES);
-            m.n = counted.told.first - 1;
+            m.n = foliokettle_call(table, ROWS, 64, full, m.desk, FOLIOKETTLE_COUNT, 0, NULL, 0).told.first - 1;
         }
         start = full;
         if (m.drop) turn(table, ROWS, 64, &start, m.desk, FOLIOKETTLE_DELETE_OWN, 0, 0);

@@ -1,12 +1,21 @@
 /* A desk call as a C programmer would write it: all checks first, then the call, in place. It refuses what the
-   library refuses, by the same numbers. */
+   library refuses, by the same numbers; limits and refusals go by the header's names, which are so put to the test. */
 #include "class_peer.h"
 #include "peer.h"
 
 #include <stdbool.h>
 #include <string.h>
 
-enum { DESKS = 32, ROWS = 256, PLACES = 512, HELD = 64, PROMISED = 8, WORDS = 4, VIEW = ROWS + HELD };
+enum {
+    VALUES = FOLIOKETTLE_VALUES,
+    ROWS = FOLIOKETTLE_ROWS,
+    DESKS = FOLIOKETTLE_DESKS,
+    PLACES = FOLIOKETTLE_PLACES,
+    HELD = FOLIOKETTLE_HELD,
+    PROMISED = FOLIOKETTLE_PROMISED,
+    WORDS = FOLIOKETTLE_WORDS,
+    VIEW = FOLIOKETTLE_VIEW
+};
 
 static bool in_column(uint64_t set, size_t d)
 {
@@ -39,7 +48,7 @@ static uint64_t may_hide(const foliokettle_sheet *sheet, size_t word)
 /* Whether the sheet is sound; then `held` has each desk's rows, and `owed` what is still promised. */
 static bool sound(const foliokettle_sheet *sheet, size_t held[DESKS], size_t *owed)
 {
-    if (sheet->d < 1 || sheet->d > 64 || sheet->rows > ROWS) return false;
+    if (sheet->d < 1 || sheet->d > VALUES || sheet->rows > ROWS) return false;
     if (sheet->desks < 1 || sheet->desks > DESKS || sheet->used > PLACES) return false;
     memset(held, 0, DESKS * sizeof *held);
     for (size_t i = 0; i < sheet->used; i++) {
@@ -77,7 +86,8 @@ static void take_out(foliokettle_sheet *sheet, size_t desk, size_t from, size_t 
     for (; left < used; left++) sheet->sets[left] = sheet->owners[left] = 0;
 }
 
-static size_t gather(const uint64_t *table, size_t rows, const foliokettle_sheet *sheet, size_t desk, uint64_t view[VIEW])
+static size_t gather(const uint64_t *table, size_t rows, const foliokettle_sheet *sheet, size_t desk,
+                     uint64_t view[VIEW])
 {
     size_t n = 0;
     for (size_t i = 0; i < rows; i++)
@@ -93,7 +103,7 @@ static foliokettle_told look(const uint64_t *table, size_t rows, const foliokett
         if (!hidden(sheet, desk, i) && n-- == 0) return answer(table[i], 0);
     for (size_t i = 0; i < sheet->used; i++)
         if (sheet->owners[i] == desk && n-- == 0) return answer(sheet->sets[i], 0);
-    return refuse(6, 0);
+    return refuse(FOLIOKETTLE_NO_ROW, 0);
 }
 
 foliokettle_told peer_call(const uint64_t *table, size_t rows, size_t d, foliokettle_sheet *sheet, size_t desk,
@@ -101,26 +111,26 @@ foliokettle_told peer_call(const uint64_t *table, size_t rows, size_t d, folioke
 {
     size_t held[DESKS], owed;
     if (kind > FOLIOKETTLE_DISTINCT) return refuse(FOLIOKETTLE_NO_CALL, 0);
-    if (d < 1 || d > 64 || rows > ROWS) return refuse(1, 0);
+    if (d < 1 || d > VALUES || rows > ROWS) return refuse(FOLIOKETTLE_TOO_LARGE, 0);
     for (size_t i = 0; i < rows; i++)
-        if (!in_column(table[i], d)) return refuse(2, i);
-    if (!sound(sheet, held, &owed)) return refuse(3, 0);
-    if (sheet->d != d || sheet->rows != rows) return refuse(4, 0);
-    if (desk >= sheet->desks) return refuse(5, 0);
+        if (!in_column(table[i], d)) return refuse(FOLIOKETTLE_BAD_ROW, i);
+    if (!sound(sheet, held, &owed)) return refuse(FOLIOKETTLE_UNSOUND, 0);
+    if (sheet->d != d || sheet->rows != rows) return refuse(FOLIOKETTLE_OTHER_TABLE, 0);
+    if (desk >= sheet->desks) return refuse(FOLIOKETTLE_NO_DESK, 0);
     switch (kind) {
     case FOLIOKETTLE_DELETE_TABLE:
-        if (n >= rows) return refuse(6, 0);
-        if (hidden(sheet, desk, n)) return refuse(7, 0);
+        if (n >= rows) return refuse(FOLIOKETTLE_NO_ROW, 0);
+        if (hidden(sheet, desk, n)) return refuse(FOLIOKETTLE_HIDDEN_ALREADY, 0);
         sheet->marks[desk * WORDS + n / 64] |= UINT64_C(1) << n % 64;
         return answer(0, 0);
     case FOLIOKETTLE_DELETE_OWN:
-        if (n >= held[desk]) return refuse(6, 0);
+        if (n >= held[desk]) return refuse(FOLIOKETTLE_NO_ROW, 0);
         take_out(sheet, desk, n, n + 1);
         return answer(0, 0);
     case FOLIOKETTLE_INSERT:
-        if (!in_column(n, d)) return refuse(8, 0);
-        if (held[desk] >= HELD) return refuse(9, 0);
-        if (held[desk] >= PROMISED && sheet->used + owed == PLACES) return refuse(10, 0);
+        if (!in_column(n, d)) return refuse(FOLIOKETTLE_BAD_SET, 0);
+        if (held[desk] >= HELD) return refuse(FOLIOKETTLE_FULL, 0);
+        if (held[desk] >= PROMISED && sheet->used + owed == PLACES) return refuse(FOLIOKETTLE_NO_ROOM, 0);
         sheet->sets[sheet->used] = n;
         sheet->owners[sheet->used++] = desk;
         return answer(0, 0);
@@ -138,7 +148,7 @@ foliokettle_told peer_call(const uint64_t *table, size_t rows, size_t d, folioke
     default: {
         uint64_t view[VIEW];
         size_t many = gather(table, rows, sheet, desk, view);
-        if (places < many) return refuse(11, 0);
+        if (places < many) return refuse(FOLIOKETTLE_SHORT_LIST, 0);
         return answer(peer_distinct(d, view, many, list, places), 0);
     }
     }

@@ -1,6 +1,7 @@
 # shellcheck shell=sh
-# For the scripts that build C beside the proved library: a C compiler for x86-64, installed from Debian's packages where
-# it is missing, and on another processor the emulator that the toolchain brings. Sets compiler, machine and emulator.
+# For the scripts that build C beside the proved library: a C compiler for x86-64, installed from Debian's packages
+# where it is missing, and on another processor the emulator that the toolchain brings. Sets compiler, machine and
+# emulator.
 machine=$(uname -m)
 emulator=''
 case $machine in
@@ -31,7 +32,7 @@ if ! has_header stdio.h; then
     has_header stdio.h || { echo "no C compiler that makes programs for x86-64" >&2; exit 2; }
 fi
 
-compile() { "$compiler" -std=c11 -O2 -Wall -Wextra "$@"; }
+compile() { "$compiler" -std=c11 -O2 -Wall -Wextra -pedantic "$@"; }
 
 # On another processor everything is linked statically, for the emulator.
 static=''
