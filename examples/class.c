@@ -1,15 +1,28 @@
-/* A small class server in C: it begins a class of two desks on a table of four cells, lets both play, and prints what
-   each is told. The sheet is all that it keeps, and each call alters it in place. */
+/* A small class server in C: three desks play on a table of five cells, and what each is told is printed, and what
+   stands on the sheet. `examples/run` compares that with class.out: every field and every parameter that crosses to the
+   library is used, and every refusal is met that can be, so that none can change its place unseen. */
 #include "../include/foliokettle.h"
 
+#include <inttypes.h>
+#include <stdbool.h>
 #include <stdio.h>
 
-enum { VALUES = 4, ROWS = 4, DESKS = 2, PLACES = 320 };
+enum { VALUES = 4, ROWS = 5, DESKS = 3 };
 
 /* Cells over the values a, b, c and d: a set is a number read as bits, a its lowest. */
 enum { A = 1, B = 2, C = 4, D = 8 };
 
-static const uint64_t table[ROWS] = {A, A | B, A | B, C | D};
+static const uint64_t cells[ROWS] = {A, A | B, A | B, C | D, B | C | D};
+
+/* What the server keeps: the teacher's table, room for a list of positions, and the one sheet. */
+typedef struct {
+    const uint64_t *table;
+    size_t rows, d, places;
+    size_t list[FOLIOKETTLE_VIEW];
+    foliokettle_sheet sheet;
+} server;
+
+/* ---- words for what is told */
 
 static void print_set(uint64_t set)
 {
@@ -19,34 +32,39 @@ static void print_set(uint64_t set)
     printf("}");
 }
 
-/* One call of a desk on the class's sheet. What it is told is printed. */
-static void play(foliokettle_sheet *sheet, size_t desk, uint64_t kind, uint64_t n)
+static void print_refusal(foliokettle_told told)
 {
-    static const char *const names[] = {"delete table row", "delete own row", "insert", "reset", "look at", "count", "distinct"};
-    size_t list[PLACES];
-    foliokettle_told told = foliokettle_alter(sheet, table, ROWS, VALUES, desk, kind, n, list, PLACES);
+    static const char *const reasons[] = {
+        [FOLIOKETTLE_TOO_LARGE] = "the column has no values or over 64, or the table too many rows",
+        [FOLIOKETTLE_BAD_ROW] = "a row is empty or has a value that the column has not",
+        [FOLIOKETTLE_UNSOUND] = "the sheet is damaged, or of no class",
+        [FOLIOKETTLE_OTHER_TABLE] = "the class has begun on another table",
+        [FOLIOKETTLE_NO_DESK] = "there is no such desk",
+        [FOLIOKETTLE_NO_ROW] = "there is no such row",
+        [FOLIOKETTLE_HIDDEN_ALREADY] = "the desk has hidden that row already",
+        [FOLIOKETTLE_BAD_SET] = "the set is empty or has a value that the column has not",
+        [FOLIOKETTLE_FULL] = "the desk holds 64 rows already",
+        [FOLIOKETTLE_NO_ROOM] = "the free places are promised to other desks",
+        [FOLIOKETTLE_SHORT_LIST] = "the list has fewer places than the view has rows",
+        [FOLIOKETTLE_LONG_VIEW] = "the view has over 320 rows",
+        [FOLIOKETTLE_BAD_DESKS] = "a class has 1 to 32 desks",
+    };
+    if (told.refusal == FOLIOKETTLE_NO_CALL) printf("refused: that is no call");
+    else if (told.refusal > FOLIOKETTLE_BAD_DESKS) printf("refused with a number that is none");
+    else printf("refused with %" PRIu64 ": %s", told.refusal, reasons[told.refusal]);
+    if (told.refusal == FOLIOKETTLE_BAD_ROW) printf(", row %" PRIu64, told.first);
+}
 
-    printf("desk %zu: ", desk);
-    if (kind > FOLIOKETTLE_DISTINCT) printf("something else");
-    else printf("%s", names[kind]);
-    if (kind == FOLIOKETTLE_INSERT) {
-        printf(" ");
-        print_set(n);
-    } else if (kind == FOLIOKETTLE_DELETE_TABLE || kind == FOLIOKETTLE_DELETE_OWN || kind == FOLIOKETTLE_LOOK) {
-        printf(" %llu", (unsigned long long)n);
-    }
-    printf(" - ");
-
-    if (told.refusal == FOLIOKETTLE_NO_CALL) {
-        printf("that is no call");
-    } else if (told.refusal != 0) {
-        printf("refused with %llu", (unsigned long long)told.refusal);
+static void print_told(uint64_t kind, foliokettle_told told, const size_t *list)
+{
+    if (told.refusal != 0) {
+        print_refusal(told);
     } else if (kind == FOLIOKETTLE_LOOK) {
         print_set(told.first);
     } else if (kind == FOLIOKETTLE_COUNT) {
-        printf("%llu rows, %llu of them own", (unsigned long long)told.first, (unsigned long long)told.second);
+        printf("%" PRIu64 " rows, %" PRIu64 " of them own", told.first, told.second);
     } else if (kind == FOLIOKETTLE_DISTINCT) {
-        printf("keeps %llu:", (unsigned long long)told.first);
+        printf("keeps %" PRIu64 ":", told.first);
         for (uint64_t i = 0; i < told.first; i++) printf(" %zu", list[i]);
     } else {
         printf("done");
@@ -54,28 +72,179 @@ static void play(foliokettle_sheet *sheet, size_t desk, uint64_t kind, uint64_t 
     printf("\n");
 }
 
+static void print_call(size_t desk, uint64_t kind, uint64_t n)
+{
+    static const char *const names[] = {"delete table row", "delete own row", "insert", "reset", "look at", "count",
+                                        "distinct"};
+    printf("desk %zu: %s", desk, kind > FOLIOKETTLE_DISTINCT ? "something else" : names[kind]);
+    if (kind == FOLIOKETTLE_INSERT) {
+        printf(" ");
+        print_set(n);
+    } else if (kind == FOLIOKETTLE_DELETE_TABLE || kind == FOLIOKETTLE_DELETE_OWN || kind == FOLIOKETTLE_LOOK) {
+        printf(" %" PRIu64, n);
+    }
+    printf(" - ");
+}
+
+static void print_sheet(const foliokettle_sheet *sheet)
+{
+    printf("  d %zu, rows %zu, desks %zu, used %zu\n", sheet->d, sheet->rows, sheet->desks, sheet->used);
+    for (size_t desk = 0; desk < sheet->desks; desk++)
+        for (size_t row = 0; row < sheet->rows; row++)
+            if (sheet->marks[FOLIOKETTLE_WORDS * desk + row / 64] >> row % 64 & 1)
+                printf("  desk %zu hides row %zu\n", desk, row);
+    for (size_t place = 0; place < sheet->used; place++) {
+        printf("  place %zu: ", place);
+        print_set(sheet->sets[place]);
+        printf(" of desk %zu\n", sheet->owners[place]);
+    }
+}
+
+/* ---- the four functions of the library */
+
+/* Whether a class begins. Where it does not, there is no sheet to play on. */
+static bool begin(server *s, size_t desks)
+{
+    foliokettle_handed begun = foliokettle_begin(s->table, s->rows, s->d, desks);
+    printf("begin: %zu desks, %zu rows, %zu values - ", desks, s->rows, s->d);
+    s->sheet = begun.sheet;
+    if (begun.told.refusal != 0) print_refusal(begun.told);
+    else printf("done");
+    printf("\n");
+    return begun.told.refusal == 0;
+}
+
+/* One call of a desk, in place. Only DISTINCT wants a list. */
+static foliokettle_told ask(server *s, size_t desk, uint64_t kind, uint64_t n)
+{
+    size_t places = kind == FOLIOKETTLE_DISTINCT ? s->places : 0;
+    size_t *list = places == 0 ? NULL : s->list;
+    return foliokettle_alter(&s->sheet, s->table, s->rows, s->d, desk, kind, n, list, places);
+}
+
+static void play(server *s, size_t desk, uint64_t kind, uint64_t n)
+{
+    print_call(desk, kind, n);
+    print_told(kind, ask(s, desk, kind, n), s->list);
+}
+
+/* What a call would do: by value, so that the class's own sheet stays. */
+static void try_out(server *s, size_t desk, uint64_t kind, uint64_t n)
+{
+    foliokettle_handed handed = foliokettle_call(s->table, s->rows, s->d, s->sheet, desk, kind, n, s->list, s->places);
+    printf("tried out, ");
+    print_call(desk, kind, n);
+    print_told(kind, handed.told, s->list);
+    print_sheet(&handed.sheet);
+}
+
+/* DISTINCT over the table as it stands, without a class. */
+static void look_over(server *s)
+{
+    printf("distinct of %zu rows, %zu values, %zu places - ", s->rows, s->d, s->places);
+    print_told(FOLIOKETTLE_DISTINCT, foliokettle_distinct(s->d, s->table, s->rows, s->list, s->places), s->list);
+}
+
+/* ---- what is played */
+
+/* What a desk does alters what DISTINCT keeps in its view, and in no other. */
+static void own_changes(server *s)
+{
+    play(s, 0, FOLIOKETTLE_COUNT, 0);
+    play(s, 0, FOLIOKETTLE_DISTINCT, 0);
+    play(s, 0, FOLIOKETTLE_INSERT, B);
+    play(s, 0, FOLIOKETTLE_DISTINCT, 0);
+    play(s, 0, FOLIOKETTLE_DELETE_TABLE, 4);
+    play(s, 0, FOLIOKETTLE_DISTINCT, 0);
+    play(s, 1, FOLIOKETTLE_DISTINCT, 0);
+    play(s, 2, FOLIOKETTLE_INSERT, C | D);
+    play(s, 2, FOLIOKETTLE_INSERT, A | D);
+    play(s, 0, FOLIOKETTLE_COUNT, 0);
+    play(s, 2, FOLIOKETTLE_LOOK, 6);
+    print_sheet(&s->sheet);
+    try_out(s, 2, FOLIOKETTLE_RESET, 0);
+    try_out(s, 1, FOLIOKETTLE_DISTINCT, 0);
+    play(s, 0, FOLIOKETTLE_DELETE_OWN, 0);
+    play(s, 0, FOLIOKETTLE_DISTINCT, 0);
+    play(s, 0, FOLIOKETTLE_RESET, 0);
+    play(s, 0, FOLIOKETTLE_DISTINCT, 0);
+    print_sheet(&s->sheet);
+}
+
+static void refusals(server *s)
+{
+    play(s, 1, FOLIOKETTLE_DELETE_TABLE, 3);
+    play(s, 1, FOLIOKETTLE_DELETE_TABLE, 3);
+    play(s, 1, FOLIOKETTLE_LOOK, 4);
+    play(s, 1, FOLIOKETTLE_INSERT, 1 << VALUES);
+    play(s, DESKS, FOLIOKETTLE_COUNT, 0);
+    play(s, 1, FOLIOKETTLE_DISTINCT + 1, 0);
+    server other = *s;
+    other.places = 3;
+    play(&other, 1, FOLIOKETTLE_DISTINCT, 0);
+    other.rows = ROWS - 1;
+    play(&other, 1, FOLIOKETTLE_COUNT, 0);
+    other.sheet.owners[0] = 77;
+    play(&other, 1, FOLIOKETTLE_COUNT, 0);
+    other.d = 2;
+    play(&other, 1, FOLIOKETTLE_COUNT, 0);
+    other.d = FOLIOKETTLE_VALUES + 1;
+    play(&other, 1, FOLIOKETTLE_COUNT, 0);
+}
+
+/* Tables and desks that no class begins with, and DISTINCT over a table without a class. */
+static void tables(void)
+{
+    server s = {.table = cells, .rows = ROWS, .d = VALUES, .places = FOLIOKETTLE_VIEW};
+    begin(&s, FOLIOKETTLE_DESKS + 1);
+    play(&s, 0, FOLIOKETTLE_COUNT, 0);
+    look_over(&s);
+    s.places = 4;
+    look_over(&s);
+    s.d = 2;
+    begin(&s, DESKS);
+    look_over(&s);
+    s.d = 0;
+    begin(&s, DESKS);
+    look_over(&s);
+}
+
+/* No table and no list: NULL is lent, with the length 0. */
+static void nothing(void)
+{
+    server s = {.table = NULL, .rows = 0, .d = VALUES, .places = 0};
+    if (!begin(&s, 1)) return;
+    play(&s, 0, FOLIOKETTLE_COUNT, 0);
+    play(&s, 0, FOLIOKETTLE_DISTINCT, 0);
+    printf("distinct of NULL - ");
+    print_told(FOLIOKETTLE_DISTINCT, foliokettle_distinct(VALUES, NULL, 0, NULL, 0), NULL);
+    play(&s, 0, FOLIOKETTLE_INSERT, A);
+    play(&s, 0, FOLIOKETTLE_LOOK, 0);
+}
+
+/* Desks that put in rows until they are refused; the count of places only ends what would go on for ever. */
+static void crowd(void)
+{
+    server s = {.table = cells, .rows = ROWS, .d = VALUES, .places = FOLIOKETTLE_VIEW};
+    if (!begin(&s, FOLIOKETTLE_DESKS)) return;
+    for (size_t desk = 0; desk < 6; desk++) {
+        int got = 0;
+        foliokettle_told told = ask(&s, desk, FOLIOKETTLE_INSERT, A);
+        for (; told.refusal == 0 && got < FOLIOKETTLE_PLACES; told = ask(&s, desk, FOLIOKETTLE_INSERT, A)) got++;
+        printf("desk %zu: puts in %d rows, and is ", desk, got);
+        print_refusal(told);
+        printf("\n");
+    }
+}
+
 int main(void)
 {
-    foliokettle_handed begun = foliokettle_begin(table, ROWS, VALUES, DESKS);
-    if (begun.told.refusal != 0) {
-        printf("no class: refused with %llu\n", (unsigned long long)begun.told.refusal);
-        return 1;
-    }
-    foliokettle_sheet sheet = begun.sheet;
-
-    play(&sheet, 0, FOLIOKETTLE_COUNT, 0);
-    play(&sheet, 0, FOLIOKETTLE_DISTINCT, 0);
-    play(&sheet, 0, FOLIOKETTLE_DELETE_TABLE, 3);
-    play(&sheet, 0, FOLIOKETTLE_DELETE_TABLE, 3);
-    play(&sheet, 0, FOLIOKETTLE_INSERT, B | D);
-    play(&sheet, 0, FOLIOKETTLE_LOOK, 3);
-    play(&sheet, 0, FOLIOKETTLE_DISTINCT, 0);
-    play(&sheet, 1, FOLIOKETTLE_COUNT, 0);
-    play(&sheet, 1, FOLIOKETTLE_LOOK, 3);
-    play(&sheet, 1, FOLIOKETTLE_INSERT, 1 << VALUES);
-    play(&sheet, 2, FOLIOKETTLE_COUNT, 0);
-    play(&sheet, 0, 99, 0);
-    play(&sheet, 0, FOLIOKETTLE_RESET, 0);
-    play(&sheet, 0, FOLIOKETTLE_COUNT, 0);
+    server s = {.table = cells, .rows = ROWS, .d = VALUES, .places = FOLIOKETTLE_VIEW};
+    if (!begin(&s, DESKS)) return 1;
+    own_changes(&s);
+    refusals(&s);
+    tables();
+    nothing();
+    crowd();
     return 0;
 }
