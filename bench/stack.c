@@ -6,6 +6,7 @@
 #include "../include/foliokettle.h"
 
 #include <stdio.h>
+#include <stdlib.h>
 #include <string.h>
 #include <ucontext.h>
 
@@ -36,6 +37,12 @@ static void alter(void)
 static void distinct(void)
 {
     told = foliokettle_distinct(VALUES, view, VIEW, list, VIEW);
+}
+
+static void fail(const char *why)
+{
+    fprintf(stderr, "stack: %s\n", why);
+    exit(1);
 }
 
 static size_t most;
@@ -76,9 +83,10 @@ int main(void)
         if (k != FOLIOKETTLE_INSERT) n = 1;
         size_t hands_back = stack_of(call), in_place = stack_of(alter);
         printf("| %s | %zu | %zu |\n", names[k], hands_back, in_place);
-        if (handed.told.refusal != 0 || told.refusal != 0) return 1;
+        if (handed.told.refusal != 0 || told.refusal != 0) fail("a call is refused");
     }
     printf("| distinct of no desk | %zu | |\n", stack_of(distinct));
     printf("stack: at most %zu bytes; %d are said to be enough\n", most, FOLIOKETTLE_STACK);
-    return most <= FOLIOKETTLE_STACK ? 0 : 1;
+    if (most > FOLIOKETTLE_STACK) fail("that is not enough");
+    return 0;
 }
