@@ -7,7 +7,9 @@ use lib.Dec.{eqb}
 use borrow.Author.Tests.{ne-eqb}
 use Rattle.refusals.specs.declared.Refusal.the-variants.{BadRow, NoRoom}
 use Rattle.store.specs.declared.Target.the-variants.{Table, Own}
-use Rattle.store.specs.declared.Call.the-variants.{Delete, Insert, Reset, Look, Count, Distinct}
+use Rattle.store.specs.declared.Call.the-variants.{Do, Ask}
+use Rattle.store.specs.declared.Change.the-variants.{Delete, Insert, Reset}
+use Rattle.store.specs.declared.Question.the-variants.{Look, Count, Distinct}
 use Rattle.store.specs.declared.Answer.the-variants.{Done, Seen, Counted, Listed, Refused}
 use Rattle.distinct.specs.declared.Answer.the-variants as view
 use Rattle.host.specs.declared.spoken.Told.{Told}
@@ -17,7 +19,7 @@ use Rattle.host.specs.Numbers.{toldKept}
 use Rattle.host.specs.Spoken.{askedBy, toldOf}
 
 pub kinds-printed : (n : ℕ) → map (λ (kind : ℕ). askedBy kind n) (0 ∷ 1 ∷ 2 ∷ 3 ∷ 4 ∷ 5 ∷ 6 ∷ [])
-    ≡ One (Delete (Table n)) ∷ One (Delete (Own n)) ∷ One (Insert n) ∷ One Reset ∷ One (Look n) ∷ One Count ∷ One Distinct ∷ []
+    ≡ One (Do (Delete (Table n))) ∷ One (Do (Delete (Own n))) ∷ One (Do (Insert n)) ∷ One (Do Reset) ∷ One (Ask (Look n)) ∷ One (Ask Count) ∷ One (Ask Distinct) ∷ []
 unfolding askedBy
 kinds-printed n = refl
 

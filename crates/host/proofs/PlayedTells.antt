@@ -114,12 +114,12 @@ module _ (d : ℕ) (table : List ℕ) (desks : ℕ) where
       let l = c .lends in
       let q = c .asks in (
         c .tells ∙ (λ i. record { told = c .admitted .0 i .told; list = c .admitted .1 i })
-        ∙ (λ i. record {
-          told = handedBy (askedBy (q .1 i) (q .2 i)) (l .1 i) (l .0 i) (l .2 i) (q .0 i) (length (q .3 i)) .told;
-          list = listOf (askedBy (q .1 i) (q .2 i)) (l .1 i) (l .0 i) (l .2 i) (q .0 i) (q .3 i);
-        }),
+            ∙ (λ i. record {
+              told = handedBy (askedBy (q .1 i) (q .2 i)) (l .1 i) (l .0 i) (l .2 i) (q .0 i) (length (q .3 i)) .told;
+              list = listOf (askedBy (q .1 i) (q .2 i)) (l .1 i) (l .0 i) (l .2 i) (q .0 i) (q .3 i);
+            }),
         c .hands-back ∙ ap (λ (h : Handed). h .sheet) (c .admitted .0)
-        ∙ (λ i. handedBy (askedBy (q .1 i) (q .2 i)) (l .1 i) (l .0 i) (l .2 i) (q .0 i) (length (q .3 i)) .sheet),
+            ∙ (λ i. handedBy (askedBy (q .1 i) (q .2 i)) (l .1 i) (l .0 i) (l .2 i) (q .0 i) (length (q .3 i)) .sheet),
       )
 
   altered : (s : Sheet) (a : Ask) (o : Heard) (s′ : Sheet) → Altered s a o s′ → (o ≡ tellsOn s a) × (s′ ≡ leavesOn s a)
@@ -127,12 +127,12 @@ module _ (d : ℕ) (table : List ℕ) (desks : ℕ) where
       let l = c .lends in
       let q = c .asks in (
         c .tells ∙ (λ i. record { told = c .admitted .0 i; list = c .admitted .2 i })
-        ∙ (λ i. record {
-          told = handedBy (askedBy (q .1 i) (q .2 i)) (l .1 i) (l .0 i) (l .2 i) (q .0 i) (length (q .3 i)) .told;
-          list = listOf (askedBy (q .1 i) (q .2 i)) (l .1 i) (l .0 i) (l .2 i) (q .0 i) (q .3 i);
-        }),
+            ∙ (λ i. record {
+              told = handedBy (askedBy (q .1 i) (q .2 i)) (l .1 i) (l .0 i) (l .2 i) (q .0 i) (length (q .3 i)) .told;
+              list = listOf (askedBy (q .1 i) (q .2 i)) (l .1 i) (l .0 i) (l .2 i) (q .0 i) (q .3 i);
+            }),
         c .leaves ∙ c .admitted .1
-        ∙ (λ i. handedBy (askedBy (q .1 i) (q .2 i)) (l .1 i) (l .0 i) (l .2 i) (q .0 i) (length (q .3 i)) .sheet),
+            ∙ (λ i. handedBy (askedBy (q .1 i) (q .2 i)) (l .1 i) (l .0 i) (l .2 i) (q .0 i) (length (q .3 i)) .sheet),
       )
 
   after-on : (past : List Ask) → after (begunSheet d table desks) tellsOn leavesOn past ≡ sheetOn d table desks (turnsOf past)

@@ -6,7 +6,9 @@ use lib.Dec.{eqb}
 use Rattle.theory.specs.Pairings.{at}
 use Rattle.sheet.specs.declared.Sheet.{Sheet}
 use Rattle.store.specs.declared.Target.the-variants.{Table, Own}
-use Rattle.store.specs.declared.Call.the-variants.{Delete, Insert, Reset, Look, Count, Distinct}
+use Rattle.store.specs.declared.Call.the-variants.{Do, Ask}
+use Rattle.store.specs.declared.Change.the-variants.{Delete, Insert, Reset}
+use Rattle.store.specs.declared.Question.the-variants.{Look, Count, Distinct}
 use Rattle.store.specs.declared.Answer.{Answer}
 use Rattle.store.specs.declared.Reply.{Reply}
 use Rattle.store.specs.Answers.{numberOf, valuesOf}
@@ -19,8 +21,13 @@ use Rattle.host.specs.declared.spoken.Asked.the-variants.{One, Nothing}
 -- the call of a kind and its argument: 0 deletes a table row, 1 an own row, 2 inserts, 3 resets, 4 looks, 5 counts, 6 asks DISTINCT
 unfoldable pub askedBy : ℕ → ℕ → Asked
 askedBy kind n =
-    cond (eqb kind 0) (One (Delete (Table n))) (cond (eqb kind 1) (One (Delete (Own n))) (cond (eqb kind 2) (One (Insert n)) (cond (eqb kind 3) (One Reset)
-    (cond (eqb kind 4) (One (Look n)) (cond (eqb kind 5) (One Count) (cond (eqb kind 6) (One Distinct) Nothing))))))
+    cond (eqb kind 0) (One (Do (Delete (Table n))))
+    (cond (eqb kind 1) (One (Do (Delete (Own n))))
+    (cond (eqb kind 2) (One (Do (Insert n)))
+    (cond (eqb kind 3) (One (Do Reset))
+    (cond (eqb kind 4) (One (Ask (Look n)))
+    (cond (eqb kind 5) (One (Ask Count))
+    (cond (eqb kind 6) (One (Ask Distinct)) Nothing))))))
 
 -- an answer by document 01's numbers
 abbrev pub toldOf : Answer → Told

@@ -4,6 +4,8 @@ ghost use Rattle.host.specs.Spoken.{askedBy, toldOf};
 use sheet::Sheet;
 use store::Answer;
 use store::Call;
+use store::Change;
+use store::Question;
 use store::Target;
 
 // The refusal number, 0 where the call is accepted, and the values that the answer returns, 0 where it has none.
@@ -32,25 +34,25 @@ pub fn heard(kind: u64, n: u64) -> Asked
     ensures { λ r. ⌜ r ≡ askedBy kind n ⌝ }
 {
     if kind == 0 {
-        return Asked::One(Call::Delete(Target::Table(n as usize)));
+        return Asked::One(Call::Do(Change::Delete(Target::Table(n as usize))));
     }
     if kind == 1 {
-        return Asked::One(Call::Delete(Target::Own(n as usize)));
+        return Asked::One(Call::Do(Change::Delete(Target::Own(n as usize))));
     }
     if kind == 2 {
-        return Asked::One(Call::Insert(n));
+        return Asked::One(Call::Do(Change::Insert(n)));
     }
     if kind == 3 {
-        return Asked::One(Call::Reset);
+        return Asked::One(Call::Do(Change::Reset));
     }
     if kind == 4 {
-        return Asked::One(Call::Look(n as usize));
+        return Asked::One(Call::Ask(Question::Look(n as usize)));
     }
     if kind == 5 {
-        return Asked::One(Call::Count);
+        return Asked::One(Call::Ask(Question::Count));
     }
     if kind == 6 {
-        return Asked::One(Call::Distinct);
+        return Asked::One(Call::Ask(Question::Distinct));
     }
     Asked::Nothing
 }

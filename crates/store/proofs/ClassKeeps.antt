@@ -19,7 +19,7 @@ use Rattle.store.specs.declared.Answer.{Answer}
 use Rattle.store.specs.declared.Answer.the-variants.{Refused}
 use Rattle.refusals.specs.Cases.{_gives_, decided}
 use Rattle.store.specs.Answers.{accepted, numberOf}
-use Rattle.store.specs.Desks.{view, serve, listAfter, telling}
+use Rattle.store.specs.Desks.{serve, listAfter, telling, written}
 use Rattle.store.specs.Calls.{begunAnswer, crowded}
 use Rattle.store.specs.Promise.{Turn, Store, hiddenIn, ownIn, member, alone, history, heldBy, usedBy, owedBy, properCall, proper, Demand3, sheetOn, classStore}
 use Rattle.store.proofs.Judging.{Good, good-parts, given, not-given, skipped}
@@ -110,28 +110,28 @@ module _ {d : ℕ} {table : List ℕ} {desks : ℕ} (good : Good d table desks) 
     mine hid rows = serve d table false (length (t .list)) hid rows (t .call)
 
     told-alone : numberOf (tell past t .answer) ≢ 10 → tell past t ≡ alone d table desks h t
-    unfolding classStore alone listAfter
+    unfolding classStore alone listAfter accepted
     told-alone ne = go (leb desks (t .desk)) refl
       where
         go : (b : Bool) → leb desks (t .desk) ≡ b → tell past t ≡ alone d table desks h t
         go true e =
-            ap (telling d table (hides (s .marks) (t .desk)) (own s (t .desk)) (t .list)) (told-here ∙ given (leb desks (t .desk)) NoDesk served e)
-            ∙ sym (ap (telling d table (member (hiddenIn h)) (ownIn h) (t .list)) (given (leb desks (t .desk)) NoDesk (mine (member (hiddenIn h)) (ownIn h)) e))
+            ap (telling d table (hides (s .marks) (t .desk)) (own s (t .desk)) (t .call) (t .list)) (told-here ∙ given (leb desks (t .desk)) NoDesk served e)
+            ∙ sym (ap (telling d table (member (hiddenIn h)) (ownIn h) (t .call) (t .list)) (given (leb desks (t .desk)) NoDesk (mine (member (hiddenIn h)) (ownIn h)) e))
         go false e =
             let there = leb-false desks (t .desk) e in
             let g = agrees good past (t .desk) there in
             let hid = hides (s .marks) (t .desk) in
             let same : (n : ℕ) → n < length table → hid n ≡ member (hiddenIn h) n = λ n l. g .marks n (omega (arith, good .small)) in
-            ap (telling d table hid (own s (t .desk)) (t .list))
+            ap (telling d table hid (own s (t .desk)) (t .call) (t .list))
             (told-served there ∙ serve-but-ten d table (crowded s) (length (t .list)) hid (own s (t .desk)) (t .call) (λ q. ne (ap numberOf (told-served there) ∙ q)))
-            ∙ ap (λ (o : List ℕ). telling d table hid o (t .list) (mine hid o)) (g .rows)
-            ∙ ap (telling d table hid (ownIn h) (t .list)) (serve-same table hid (member (hiddenIn h)) (ownIn h) same d false (length (t .list)) (t .call))
-            ∙ telling-same table hid (member (hiddenIn h)) (ownIn h) same d (t .list) (mine (member (hiddenIn h)) (ownIn h))
-            ∙ sym (ap (telling d table (member (hiddenIn h)) (ownIn h) (t .list)) (not-given (leb desks (t .desk)) NoDesk (mine (member (hiddenIn h)) (ownIn h)) e))
+            ∙ ap (λ (o : List ℕ). telling d table hid o (t .call) (t .list) (mine hid o)) (g .rows)
+            ∙ ap (telling d table hid (ownIn h) (t .call) (t .list)) (serve-same table hid (member (hiddenIn h)) (ownIn h) same d false (length (t .list)) (t .call))
+            ∙ telling-same table hid (member (hiddenIn h)) (ownIn h) same d (t .call) (t .list) (mine (member (hiddenIn h)) (ownIn h))
+            ∙ sym (ap (telling d table (member (hiddenIn h)) (ownIn h) (t .call) (t .list)) (not-given (leb desks (t .desk)) NoDesk (mine (member (hiddenIn h)) (ownIn h)) e))
 
     ten-writes-nothing : numberOf (tell past t .answer) ≡ 10 → tell past t .list ≡ t .list
-    unfolding classStore listAfter
-    ten-writes-nothing e = ap (λ (a : Answer). listAfter d (view table (hides (s .marks) (t .desk)) (own s (t .desk))) a (t .list)) (ten-is (tell past t .answer) e)
+    unfolding classStore listAfter accepted
+    ten-writes-nothing e = ap (λ (a : Answer). listAfter (written d table (hides (s .marks) (t .desk)) (own s (t .desk)) (t .call)) a (t .list)) (ten-is (tell past t .answer) e)
 
 pub class-keeps : (d : ℕ) (table : List ℕ) (desks : ℕ) → accepted (begunAnswer d table desks) ≡ true → Demand3 d table desks (classStore d table desks)
 class-keeps d table desks begun =

@@ -24,7 +24,8 @@ use Rattle.sheet.proofs.SoundParts.{sound-parts, used-is-held}
 use Rattle.sheet.proofs.SoundAfter.{room}
 use Rattle.store.specs.declared.Target.the-variants.{Table, Own}
 use Rattle.store.specs.declared.Call.{Call}
-use Rattle.store.specs.declared.Call.the-variants.{Delete, Insert, Reset, Look, Count, Distinct}
+use Rattle.store.specs.declared.Call.the-variants.{Do, Ask}
+use Rattle.store.specs.declared.Change.the-variants.{Delete, Insert, Reset}
 use Rattle.store.specs.Answers.{accepted}
 use Rattle.store.specs.Calls.{begunSheet, crowded, answered, changed, sheetAfter}
 use Rattle.store.specs.Promise.{Turn, hiddenIn, ownIn, member, history, heldBy, usedBy, owedBy, sheetOn, classStore}
@@ -55,7 +56,7 @@ module _ {d : ℕ} {table : List ℕ} {desks : ℕ} (good : Good d table desks) 
   -- ---- an accepted call
 
   module _ {s : Sheet} (r : Reached d table desks s) (k : ℕ) (hk : k < desks) where
-    place : (set : ℕ) → Allowed d (length table) (crowded s) (own s k) (Insert set) → s .used < mostPlaces
+    place : (set : ℕ) → Allowed d (length table) (crowded s) (own s k) (Do (Insert set)) → s .used < mostPlaces
     place set a = room s k (r .stays-sound) (omega (arith, r .same-desks)) (has-room s (r .stays-sound) k (a .2))
 
     narrow : {n : ℕ} → n < length table → n < mostRows
@@ -66,48 +67,40 @@ module _ {d : ℕ} {table : List ℕ} {desks : ℕ} (good : Good d table desks) 
 
     own-same : (c : Call) (h : List Call) → Allowed d (length table) (crowded s) (own s k) c → own s k ≡ ownIn h → own (changed s k c) k ≡ ownIn (c ∷ h)
     unfolding changed ownIn
-    own-same (Delete (Table n)) h a e = e
-    own-same (Delete (Own n)) h a e = own-without-same s k n (suc n) (omega arith) ∙ ap (λ (l : List ℕ). take n l ++ drop (suc n) l) e
-    own-same (Insert set) h a e = own-adding-same k set (r .whole) (place set a) ∙ ap (λ (l : List ℕ). l ++ (set ∷ [])) e
-    own-same Reset h a e = own-without-all s k (sound-parts s (r .stays-sound) .places)
-    own-same (Look n) h a e = e
-    own-same Count h a e = e
-    own-same Distinct h a e = e
+    own-same (Do (Delete (Table n))) h a e = e
+    own-same (Do (Delete (Own n))) h a e = own-without-same s k n (suc n) (omega arith) ∙ ap (λ (l : List ℕ). take n l ++ drop (suc n) l) e
+    own-same (Do (Insert set)) h a e = own-adding-same k set (r .whole) (place set a) ∙ ap (λ (l : List ℕ). l ++ (set ∷ [])) e
+    own-same (Do Reset) h a e = own-without-all s k (sound-parts s (r .stays-sound) .places)
+    own-same (Ask q) h a e = e
 
     hides-here : (c : Call) (h : List Call) → Allowed d (length table) (crowded s) (own s k) c → (n : ℕ) → n < mostRows
         → hides (s .marks) k n ≡ member (hiddenIn h) n → hides (changed s k c .marks) k n ≡ member (hiddenIn (c ∷ h)) n
     unfolding changed hiddenIn member
-    hides-here (Delete (Table m)) h a n l e = elim (ℕ-discrete m n) [
+    hides-here (Do (Delete (Table m))) h a n l e = elim (ℕ-discrete m n) [
       | yes q ↦ rw (← q, eq-eqb m m refl) (hides-same (s .marks) k m (r .whole .marks-long) low (narrow a))
       | no ne ↦ rw (ne-eqb m n ne) (hides-other (s .marks) k m (r .whole .marks-long) low (narrow a) k n l (inr (λ q. ne (sym q))) ∙ e)
     ]
-    hides-here (Delete (Own m)) h a n l e = e
-    hides-here (Insert set) h a n l e = e
-    hides-here Reset h a n l e = wiped-same (s .marks) k n l
-    hides-here (Look m) h a n l e = e
-    hides-here Count h a n l e = e
-    hides-here Distinct h a n l e = e
+    hides-here (Do (Delete (Own m))) h a n l e = e
+    hides-here (Do (Insert set)) h a n l e = e
+    hides-here (Do Reset) h a n l e = wiped-same (s .marks) k n l
+    hides-here (Ask q) h a n l e = e
 
     module _ (j : ℕ) (ne : j ≢ k) where
       own-other : (c : Call) → Allowed d (length table) (crowded s) (own s k) c → own (changed s k c) j ≡ own s j
       unfolding changed
-      own-other (Delete (Table n)) a = refl
-      own-other (Delete (Own n)) a = own-without-other s k n (suc n) j ne
-      own-other (Insert set) a = own-adding-other k set (r .whole) (place set a) j ne
-      own-other Reset a = own-without-other s k zero mostPlaces j ne
-      own-other (Look n) a = refl
-      own-other Count a = refl
-      own-other Distinct a = refl
+      own-other (Do (Delete (Table n))) a = refl
+      own-other (Do (Delete (Own n))) a = own-without-other s k n (suc n) j ne
+      own-other (Do (Insert set)) a = own-adding-other k set (r .whole) (place set a) j ne
+      own-other (Do Reset) a = own-without-other s k zero mostPlaces j ne
+      own-other (Ask q) a = refl
 
       hides-there : (c : Call) → Allowed d (length table) (crowded s) (own s k) c → (n : ℕ) → n < mostRows → hides (changed s k c .marks) j n ≡ hides (s .marks) j n
       unfolding changed
-      hides-there (Delete (Table m)) a n l = hides-other (s .marks) k m (r .whole .marks-long) low (narrow a) j n l (inl ne)
-      hides-there (Delete (Own m)) a n l = refl
-      hides-there (Insert set) a n l = refl
-      hides-there Reset a n l = wiped-other (s .marks) k n l j ne
-      hides-there (Look m) a n l = refl
-      hides-there Count a n l = refl
-      hides-there Distinct a n l = refl
+      hides-there (Do (Delete (Table m))) a n l = hides-other (s .marks) k m (r .whole .marks-long) low (narrow a) j n l (inl ne)
+      hides-there (Do (Delete (Own m))) a n l = refl
+      hides-there (Do (Insert set)) a n l = refl
+      hides-there (Do Reset) a n l = wiped-other (s .marks) k n l j ne
+      hides-there (Ask q) a n l = refl
 
     -- whose call it is, or another's
     agrees-after : (c : Call) → Allowed d (length table) (crowded s) (own s k) c → (j : ℕ) (h : List Call) → Agrees s j h → Agrees (changed s k c) j (cond (eqb k j) (c ∷ h) h)

@@ -20,7 +20,8 @@ use Rattle.sheet.proofs.OwnAfter.{length-own}
 use Rattle.sheet.proofs.SoundParts.{sound-parts}
 use Rattle.store.specs.declared.Target.the-variants.{Table, Own}
 use Rattle.store.specs.declared.Call.{Call}
-use Rattle.store.specs.declared.Call.the-variants.{Delete, Insert, Reset, Look, Count, Distinct}
+use Rattle.store.specs.declared.Call.the-variants.{Do, Ask}
+use Rattle.store.specs.declared.Change.the-variants.{Delete, Insert, Reset}
 use Rattle.refusals.specs.declared.Refusal.{Refusal}
 use Rattle.refusals.specs.declared.Refusal.the-variants.{TooLarge, NoRow, HiddenAlready, BadSet, Full, NoRoom, BadDesks}
 use Rattle.store.specs.declared.Answer.{Answer}
@@ -112,13 +113,11 @@ parts-good {d} {table} {desks} g =
 
 -- what an accepted call has
 abbrev pub Allowed : ℕ → ℕ → Bool → List ℕ → Call → Type 0
-Allowed d rows full own (Delete (Table n)) = n < rows
-Allowed d rows full own (Delete (Own n)) = n < length own
-Allowed d rows full own (Insert set) = (within d set ≡ true) × (length own < mostHeld) × (full ≡ true → length own < promised)
-Allowed d rows full own Reset = Unit {0}
-Allowed d rows full own (Look n) = Unit {0}
-Allowed d rows full own Count = Unit {0}
-Allowed d rows full own Distinct = Unit {0}
+Allowed d rows full own (Do (Delete (Table n))) = n < rows
+Allowed d rows full own (Do (Delete (Own n))) = n < length own
+Allowed d rows full own (Do (Insert set)) = (within d set ≡ true) × (length own < mostHeld) × (full ≡ true → length own < promised)
+Allowed d rows full own (Do Reset) = Unit {0}
+Allowed d rows full own (Ask q) = Unit {0}
 
 and-no : (a b : Bool) → (a && b) ≡ false → b ≡ true → a ≡ false
 and-no false b e t = refl
@@ -127,10 +126,10 @@ and-no true b e t = absurd (false≢true (sym e ∙ t))
 pub allowed : (d : ℕ) (table : List ℕ) (full : Bool) (places : ℕ) (hid : ℕ → Bool) (own : List ℕ) (c : Call) → accepted (serve d table full places hid own c) ≡ true
     → Allowed d (length table) full own c
 unfolding serve
-allowed d table full places hid own (Delete (Table n)) t =
+allowed d table full places hid own (Do (Delete (Table n))) t =
     leb-false (length table) n (passed (leb (length table) n) NoRow ((hid n gives HiddenAlready) ∷ []) Done t .0)
-allowed d table full places hid own (Delete (Own n)) t = leb-false (length own) n (passed (leb (length own) n) NoRow [] Done t .0)
-allowed d table full places hid own (Insert set) t =
+allowed d table full places hid own (Do (Delete (Own n))) t = leb-false (length own) n (passed (leb (length own) n) NoRow [] Done t .0)
+allowed d table full places hid own (Do (Insert set)) t =
     let room : List Case = ((leb promised (length own) && full) gives NoRoom) ∷ [] in
     let one = passed (not (within d set)) BadSet ((leb mostHeld (length own) gives Full) ∷ room) Done t in
     let two = passed (leb mostHeld (length own)) Full room Done (one .1) in
@@ -139,10 +138,8 @@ allowed d table full places hid own (Insert set) t =
       leb-false mostHeld (length own) (two .0),
       λ e. leb-false promised (length own) (and-no (leb promised (length own)) full (three .0) e),
     )
-allowed d table full places hid own Reset t = tt
-allowed d table full places hid own (Look n) t = tt
-allowed d table full places hid own Count t = tt
-allowed d table full places hid own Distinct t = tt
+allowed d table full places hid own (Do Reset) t = tt
+allowed d table full places hid own (Ask q) t = tt
 
 -- an accepted insert finds a place that is free, or promised to its desk
 pub has-room : (s : Sheet) → sound s ≡ true → (k : ℕ) → (crowded s ≡ true → length (own s k) < promised) → (held s k < promised) ⊎ (s .used + owed s < mostPlaces)

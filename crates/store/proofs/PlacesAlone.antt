@@ -13,7 +13,8 @@ use Rattle.sets.specs.Limits.{mostHeld, mostPlaces, promised}
 use Rattle.sheet.specs.Upto.{sumTo}
 use Rattle.sheet.proofs.UptoLaws.{top-or-below, sum-part}
 use Rattle.store.specs.declared.Call.{Call}
-use Rattle.store.specs.declared.Call.the-variants.{Insert}
+use Rattle.store.specs.declared.Call.the-variants.{Do}
+use Rattle.store.specs.declared.Change.the-variants.{Insert}
 use Rattle.refusals.specs.Cases.{decided}
 use Rattle.store.specs.Answers.{accepted, numberOf}
 use Rattle.store.specs.Desks.{serve, Told}
@@ -36,7 +37,7 @@ sum-least g c (suc n) m h p = elim (decLt n m) [
 -- ---- a run in which desks 0 to j - 1 ask for 64 rows each
 
 abbrev asking : ℕ → Turn
-asking k = turn k (Insert 1) []
+asking k = turn k (Do (Insert 1)) []
 
 unfoldable asked : ℕ → ℕ → List Turn → List Turn
 asked k zero past = past
@@ -70,7 +71,7 @@ module _ {d : ℕ} {table : List ℕ} {desks : ℕ} {tell : Store} (begun : acce
         let before = asked k n past in
         let ih = gets k n h past none (omega arith) in
         let empty = ap (λ (l : List Call). length (ownIn l)) (others 8 k n (omega arith) past) in
-        let next = history-next begun keeps before k (Insert 1) [] (accepts before k h (omega arith) (omega arith)) in
+        let next = history-next begun keeps before k (Do (Insert 1)) [] (accepts before k h (omega arith) (omega arith)) in
         omega (arith, ap (λ (l : List Call). length (ownIn l)) next, length-append (ownIn (history tell k before)) (1 ∷ []))
 
     held-in : (j : ℕ) → j ≤ 8 → ((i : ℕ) → i < j → heldBy tell i (run j) ≡ mostHeld) × ((i : ℕ) → j ≤ i → heldBy tell i (run j) ≡ zero)

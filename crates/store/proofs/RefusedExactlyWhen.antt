@@ -19,7 +19,9 @@ use Rattle.sheet.specs.declared.Sheet.{Sheet}
 use Rattle.sheet.specs.Sheets.{own, hides}
 use Rattle.store.specs.declared.Target.the-variants.{Table, Own}
 use Rattle.store.specs.declared.Call.{Call}
-use Rattle.store.specs.declared.Call.the-variants.{Delete, Insert, Reset, Look, Count, Distinct}
+use Rattle.store.specs.declared.Call.the-variants.{Do, Ask}
+use Rattle.store.specs.declared.Change.the-variants.{Delete, Insert, Reset}
+use Rattle.store.specs.declared.Question.the-variants.{Look, Count, Distinct}
 use Rattle.store.specs.declared.Answer.{Answer}
 use Rattle.store.specs.declared.Answer.the-variants.{Done, Refused}
 use Rattle.store.specs.Answers.{numberOf, rowOf}
@@ -75,21 +77,19 @@ module _ (d : ℕ) (table : List ℕ) (s : Sheet) (k : ℕ) (c : Call) (places :
       ∙ ap (λ (cs : List Case). decided Refused cs grants) (append-assoc (tableCases mostRows d table) (sheetCases d table s k) _)
 
   accepts : (c : Call) → (numberOf (granted d table (crowded s) places hid (own s k) c) ≡ 0) × (rowOf (granted d table (crowded s) places hid (own s k) c) ≡ 0)
-  accepts (Delete t) = (refl, refl)
-  accepts (Insert set) = (refl, refl)
-  accepts Reset = (refl, refl)
-  accepts (Look n) = (refl, refl)
-  accepts Count = (refl, refl)
-  accepts Distinct = (refl, refl)
+  accepts (Do c) = (refl, refl)
+  accepts (Ask (Look n)) = (refl, refl)
+  accepts (Ask Count) = (refl, refl)
+  accepts (Ask Distinct) = (refl, refl)
 
   call-rising : (c : Call) → Rising 5 (callCases d table (crowded s) places hid (own s k) c)
-  call-rising (Delete (Table n)) = (omega arith, (omega arith, tt))
-  call-rising (Delete (Own n)) = (omega arith, tt)
-  call-rising (Insert set) = (omega arith, (omega arith, (omega arith, tt)))
-  call-rising Reset = tt
-  call-rising (Look n) = (omega arith, tt)
-  call-rising Count = tt
-  call-rising Distinct = (omega arith, (omega arith, tt))
+  call-rising (Do (Delete (Table n))) = (omega arith, (omega arith, tt))
+  call-rising (Do (Delete (Own n))) = (omega arith, tt)
+  call-rising (Do (Insert set)) = (omega arith, (omega arith, (omega arith, tt)))
+  call-rising (Do Reset) = tt
+  call-rising (Ask (Look n)) = (omega arith, tt)
+  call-rising (Ask Count) = tt
+  call-rising (Ask Distinct) = (omega arith, (omega arith, tt))
 
   later-rising : Rising 2 laterCases
   unfolding sheetCases
@@ -108,13 +108,13 @@ module _ (d : ℕ) (table : List ℕ) (s : Sheet) (k : ℕ) (c : Call) (places :
   -- and 0 with any other number
   call-never-26 : (c : Call) → applies (callCases d table (crowded s) places hid (own s k) c) 26 ≡ false
   unfolding applies
-  call-never-26 (Delete (Table n)) = refl
-  call-never-26 (Delete (Own n)) = refl
-  call-never-26 (Insert set) = refl
-  call-never-26 Reset = refl
-  call-never-26 (Look n) = refl
-  call-never-26 Count = refl
-  call-never-26 Distinct = refl
+  call-never-26 (Do (Delete (Table n))) = refl
+  call-never-26 (Do (Delete (Own n))) = refl
+  call-never-26 (Do (Insert set)) = refl
+  call-never-26 (Do Reset) = refl
+  call-never-26 (Ask (Look n)) = refl
+  call-never-26 (Ask Count) = refl
+  call-never-26 (Ask Distinct) = refl
 
   all-never-26 : applies (allCases d table s k c places) 26 ≡ false
   unfolding applies tableCases sheetCases

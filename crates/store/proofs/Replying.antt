@@ -18,14 +18,17 @@ use Rattle.sheet.proofs.UptoLaws.{sum-part}
 use Rattle.sheet.proofs.OwnAfter.{length-own}
 use Rattle.store.specs.declared.Target.the-variants.{Table, Own}
 use Rattle.store.specs.declared.Call.{Call}
-use Rattle.store.specs.declared.Call.the-variants.{Delete, Insert, Reset, Look, Count, Distinct}
+use Rattle.store.specs.declared.Call.the-variants.{Do, Ask}
+use Rattle.store.specs.declared.Question.{Question}
+use Rattle.store.specs.declared.Change.{Change}
+use Rattle.store.specs.declared.Change.the-variants.{Delete, Insert, Reset}
 use Rattle.refusals.specs.declared.Refusal.the-variants.{Unsound, OtherTable, NoDesk, BadDesks}
 use Rattle.store.specs.declared.Answer.{Answer}
 use Rattle.store.specs.declared.Reply.{Reply}
 use Rattle.store.specs.declared.Answer.the-variants.{Done, Seen, Counted, Listed, Refused}
 use Rattle.refusals.specs.Cases.{Case, _gives_, decided}
 use Rattle.store.specs.Answers.{accepted}
-use Rattle.store.specs.Desks.{view, serve, listAfter}
+use Rattle.store.specs.Desks.{serve, written, listAfter}
 use Rattle.sets.specs.Limits.{mostRows, mostDesks, mostPlaces, promised}
 use Rattle.refusals.specs.TableCases.{tableCases}
 use Rattle.store.specs.Calls.{deskCases, sheetCases, crowded, begunAnswer, begunSheet, begun, answered, changed, sheetAfter, replied, told}
@@ -94,20 +97,16 @@ module _ (d : ℕ) (table : List ℕ) (desks : ℕ) where
 abbrev pub Outcome : ℕ → List ℕ → Sheet → ℕ → Call → List ℕ → Reply → List ℕ → Type 0
 Outcome d table s k c old r list = (r ≡ replied d table s k c (length old)) × (list ≡ told d table s k c old .list)
 
-silent-refusal : (d : ℕ) (rows list : List ℕ) (a : Answer) → accepted a ≡ false → listAfter d rows a list ≡ list
-unfolding accepted listAfter
-silent-refusal d rows list Done e = absurd (true≢false e)
-silent-refusal d rows list (Seen set) e = absurd (true≢false e)
-silent-refusal d rows list (Counted n held) e = absurd (true≢false e)
-silent-refusal d rows list (Listed n) e = absurd (true≢false e)
-silent-refusal d rows list (Refused r) e = refl
+silent-refusal : (front list : List ℕ) (a : Answer) → accepted a ≡ false → listAfter front a list ≡ list
+unfolding listAfter
+silent-refusal front list a e = rw e refl
 
 module _ (d : ℕ) (table : List ℕ) (s : Sheet) (k : ℕ) (c : Call) (old : List ℕ) where
   -- a refusal leaves the list
   refused : (a : Answer) → answered d table s k c (length old) ≡ a → accepted a ≡ false → Responded d table s k c old a old
   refused a e n = record {
     answer-is = sym e;
-    list-is = rw e (sym (silent-refusal d (view table (hides (s .marks) k) (own s k)) old a n));
+    list-is = rw e (sym (silent-refusal (written d table (hides (s .marks) k) (own s k) c) old a n));
     room = λ t. absurd (true≢false (sym t ∙ n));
   }
 
@@ -167,6 +166,11 @@ module _ (d : ℕ) (table : List ℕ) (s : Sheet) (k : ℕ) (c : Call) (old : Li
     carried-accepted t after e = let says : accepted (answered d table s k c (length old)) ≡ true = ap accepted (sym (R .answer-is)) ∙ t in
         record { answer-is = R .answer-is; sheet-is = rw says e; list-is = R .list-is }
 
+    -- and so does a question
+    pub carried-question : accepted a ≡ true → (q : Question) → c ≡ Ask q → CarriedOut d table s k c old a s list
+    unfolding changed
+    carried-question t q e = carried-accepted t s (rw e refl)
+
 -- rows are taken out, and the marks are others
 pub placed-out : (s : Sheet) (k from upto left : ℕ) (marks marks′ sets′ owners′ : List ℕ) → TakenOut k from upto (s .sets) (s .owners) (s .used) left sets′ owners′ → marks ≡ marks′
     → sheetOf (s .d) (s .rows) (s .desks) left marks sets′ owners′ ≡ marking (without s k from upto) marks′
@@ -174,14 +178,15 @@ placed-out s k from upto left marks marks′ sets′ owners′ T m =
     λ i. record { d = s .d; rows = s .rows; desks = s .desks; used = T .count i; marks = m i; sets = T .rows i; owners = T .desks i }
 
 -- what a change has room for lies in the places alone
-pub room-in-parts : (s : Sheet) (k : ℕ) (c : Call) → Possible s k c → Possible (sheetOf zero zero zero (s .used) (s .marks) (s .sets) (s .owners)) k c
-room-in-parts s k (Delete (Table n)) p = p
-room-in-parts s k (Delete (Own n)) p = p
-room-in-parts s k (Insert set) p = p
-room-in-parts s k Reset p = p
-room-in-parts s k (Look n) p = p
-room-in-parts s k Count p = p
-room-in-parts s k Distinct p = p
+pub room-in-parts : (s : Sheet) (k : ℕ) {call : Call} {c : Change} → call ≡ Do c → Possible s k call
+    → Possible (sheetOf zero zero zero (s .used) (s .marks) (s .sets) (s .owners)) k (Do c)
+room-in-parts s k {call} {c} e p = go c (rw e at p)
+  where
+    go : (c : Change) → Possible s k (Do c) → Possible (sheetOf zero zero zero (s .used) (s .marks) (s .sets) (s .owners)) k (Do c)
+    go (Delete (Table n)) p = p
+    go (Delete (Own n)) p = p
+    go (Insert set) p = p
+    go Reset p = p
 
 -- ---- once the desk is known
 
@@ -197,16 +202,14 @@ possible d table s counts k T c places t = go c (allowed d table (crowded s) pla
     has-place h = omega (arith, sum-part (λ j. promised - held s j) (s .desks) k (T .desk-there), L .promise)
 
     go : (c : Call) → Allowed d (length table) (crowded s) (own s k) c → Possible s k c
-    go (Delete (Table n)) a = (L .desk, omega (arith, L .table-rows))
-    go (Delete (Own n)) a = (L .used, omega (arith, L .share, length-own s k))
-    go (Insert set) a = elim (has-room s (T .sheet-right) k (a .2)) [
+    go (Do (Delete (Table n))) a = (L .desk, omega (arith, L .table-rows))
+    go (Do (Delete (Own n))) a = (L .used, omega (arith, L .share, length-own s k))
+    go (Do (Insert set)) a = elim (has-room s (T .sheet-right) k (a .2)) [
       | inl h ↦ has-place h
       | inr h ↦ omega arith
     ]
-    go Reset a = (L .used, L .desk)
-    go (Look n) a = tt
-    go Count a = tt
-    go Distinct a = tt
+    go (Do Reset) a = (L .used, L .desk)
+    go (Ask q) a = tt
 
 module _ (d : ℕ) (table : List ℕ) (k : ℕ) {s : Sheet} {r : Bool} {counts : List ℕ} (right : accepted (decided Refused (tableCases mostRows d table) Done) ≡ true)
     (survey : Surveyed sound s r counts) (whole : r ≡ true) (known : accepted (decided Refused (deskCases d (length table) (s .d) (s .rows) (s .desks) k) Done) ≡ true) where

@@ -17,7 +17,8 @@ use Rattle.sheet.proofs.SoundParts.{sound-parts}
 use Rattle.sheet.proofs.SoundAfter.{whole-fresh, sound-fresh, zeros-unsound, sound-hiding, sound-adding, sound-without, sound-resetting}
 use Rattle.store.specs.declared.Target.the-variants.{Table, Own}
 use Rattle.store.specs.declared.Call.{Call}
-use Rattle.store.specs.declared.Call.the-variants.{Delete, Insert, Reset, Look, Count, Distinct}
+use Rattle.store.specs.declared.Call.the-variants.{Do, Ask}
+use Rattle.store.specs.declared.Change.the-variants.{Delete, Insert, Reset}
 use Rattle.refusals.specs.declared.Refusal.the-variants.{NoDesk}
 use Rattle.store.specs.declared.Answer.the-variants.{Refused}
 use Rattle.refusals.specs.Cases.{_gives_, decided}
@@ -84,7 +85,7 @@ module _ {d : ℕ} {table : List ℕ} {desks : ℕ} (good : Good d table desks) 
 
   after : {s : Sheet} → Reached d table desks s → (k : ℕ) (c : Call) → k < desks → Allowed d (length table) (crowded s) (own s k) c → Reached d table desks (changed s k c)
   unfolding changed
-  after {s} r k (Delete (Table n)) h a =
+  after {s} r k (Do (Delete (Table n))) h a =
       record {
         whole = whole-hiding k n (r .whole);
         stays-sound = sound-hiding k n (r .whole) (r .stays-sound) (omega (arith, r .same-desks)) (omega (arith, r .same-rows));
@@ -92,7 +93,7 @@ module _ {d : ℕ} {table : List ℕ} {desks : ℕ} (good : Good d table desks) 
         same-rows = r .same-rows;
         same-desks = r .same-desks;
       }
-  after {s} r k (Delete (Own n)) h a =
+  after {s} r k (Do (Delete (Own n))) h a =
       record {
         whole = whole-without k n (suc n) (r .whole) (sound-parts s (r .stays-sound) .places);
         stays-sound = sound-without s k n (suc n) (r .stays-sound) (omega (arith, r .same-desks)) (omega arith);
@@ -100,7 +101,7 @@ module _ {d : ℕ} {table : List ℕ} {desks : ℕ} (good : Good d table desks) 
         same-rows = r .same-rows;
         same-desks = r .same-desks;
       }
-  after {s} r k (Insert set) h a =
+  after {s} r k (Do (Insert set)) h a =
       record {
         whole = whole-adding k set (r .whole);
         stays-sound =
@@ -110,7 +111,7 @@ module _ {d : ℕ} {table : List ℕ} {desks : ℕ} (good : Good d table desks) 
         same-rows = r .same-rows;
         same-desks = r .same-desks;
       }
-  after {s} r k Reset h a =
+  after {s} r k (Do Reset) h a =
       record {
         whole = whole-showing k (whole-without k zero mostPlaces (r .whole) (sound-parts s (r .stays-sound) .places));
         stays-sound = sound-resetting s k (r .stays-sound) (omega (arith, r .same-desks));
@@ -118,9 +119,7 @@ module _ {d : ℕ} {table : List ℕ} {desks : ℕ} (good : Good d table desks) 
         same-rows = r .same-rows;
         same-desks = r .same-desks;
       }
-  after r k (Look n) h a = r
-  after r k Count h a = r
-  after r k Distinct h a = r
+  after r k (Ask q) h a = r
 
   -- ---- a run
 

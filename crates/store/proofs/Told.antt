@@ -16,7 +16,9 @@ use Rattle.theory.specs.Kept.{kept}
 use Rattle.sheet.proofs.UptoLaws.{those-ext}
 use Rattle.store.specs.declared.Target.the-variants.{Table, Own}
 use Rattle.store.specs.declared.Call.{Call}
-use Rattle.store.specs.declared.Call.the-variants.{Delete, Insert, Reset, Look, Count, Distinct}
+use Rattle.store.specs.declared.Call.the-variants.{Do, Ask}
+use Rattle.store.specs.declared.Change.the-variants.{Delete, Insert, Reset}
+use Rattle.store.specs.declared.Question.the-variants.{Look, Count, Distinct}
 use Rattle.refusals.specs.declared.Refusal.{Refusal}
 use Rattle.refusals.specs.declared.Refusal.the-variants.{NoRow, HiddenAlready, BadSet, Full, NoRoom, ShortList, LongView}
 use Rattle.refusals.proofs.NumberTable.{ten-no-room}
@@ -24,7 +26,7 @@ use Rattle.store.specs.declared.Answer.{Answer}
 use Rattle.store.specs.declared.Answer.the-variants.{Done, Seen, Counted, Listed, Refused}
 use Rattle.refusals.specs.Cases.{Case, _gives_, decided}
 use Rattle.store.specs.Answers.{accepted, numberOf}
-use Rattle.store.specs.Desks.{view, serve, listAfter, telling}
+use Rattle.store.specs.Desks.{view, serve, written, listAfter, telling}
 use Rattle.store.specs.Promise.{properCall}
 use Rattle.store.proofs.Judging.{skipped, applied}
 
@@ -39,25 +41,25 @@ module _ (table : List ℕ) (hid hid′ : ℕ → Bool) (own : List ℕ) (same :
 
   pub serve-same : (d : ℕ) (full : Bool) (places : ℕ) (c : Call) → serve d table full places hid own c ≡ serve d table full places hid′ own c
   unfolding serve decided
-  serve-same d full places (Delete (Table n)) = go (leb (length table) n) refl
+  serve-same d full places (Do (Delete (Table n))) = go (leb (length table) n) refl
     where
       go : (b : Bool) → leb (length table) n ≡ b → cond b (Refused NoRow) (cond (hid n) (Refused HiddenAlready) Done) ≡ cond b (Refused NoRow) (cond (hid′ n) (Refused HiddenAlready) Done)
       go true e = refl
       go false e = rw (same n (leb-false (length table) n e))
-  serve-same d full places (Delete (Own n)) = refl
-  serve-same d full places (Insert set) = refl
-  serve-same d full places Reset = refl
-  serve-same d full places (Look n) = rw view-same
-  serve-same d full places Count = rw view-same
-  serve-same d full places Distinct = rw view-same
+  serve-same d full places (Do (Delete (Own n))) = refl
+  serve-same d full places (Do (Insert set)) = refl
+  serve-same d full places (Do Reset) = refl
+  serve-same d full places (Ask q) = rw view-same
 
-  pub telling-same : (d : ℕ) (list : List ℕ) (a : Answer) → telling d table hid own list a ≡ telling d table hid′ own list a
-  telling-same d list a = rw view-same
+  pub telling-same : (d : ℕ) (c : Call) (list : List ℕ) (a : Answer) → telling d table hid own c list a ≡ telling d table hid′ own c list a
+  unfolding written
+  telling-same d (Do c) list a = refl
+  telling-same d (Ask q) list a = rw view-same
 
 -- a refusal writes nothing
-pub refused-list : (d : ℕ) (rows : List ℕ) (r : Refusal) (list : List ℕ) → listAfter d rows (Refused r) list ≡ list
-unfolding listAfter
-refused-list d rows r list = refl
+pub refused-list : (front : List ℕ) (r : Refusal) (list : List ℕ) → listAfter front (Refused r) list ≡ list
+unfolding listAfter accepted
+refused-list front r list = refl
 
 -- ---- refusal 10
 
@@ -75,14 +77,14 @@ ten-is (Refused r) e = ap Refused (ten-no-room r e)
 module _ (d : ℕ) (table : List ℕ) (full : Bool) (places : ℕ) (hid : ℕ → Bool) (own : List ℕ) where
   pub serve-ten : (c : Call) → numberOf (serve d table full places hid own c) ≡ 10 → (properCall d c ≡ true) × (promised ≤ length own) × (length own < mostHeld) × (full ≡ true)
   unfolding serve properCall decided
-  serve-ten (Delete (Table n)) e =
+  serve-ten (Do (Delete (Table n))) e =
       absurd (omega (
         arith,
         skipped 10 (hid n) HiddenAlready [] Done (omega arith)
             (skipped 10 (leb (length table) n) NoRow ((hid n gives HiddenAlready) ∷ []) Done (omega arith) e .1) .1,
       ))
-  serve-ten (Delete (Own n)) e = absurd (omega (arith, skipped 10 (leb (length own) n) NoRow [] Done (omega arith) e .1))
-  serve-ten (Insert set) e =
+  serve-ten (Do (Delete (Own n))) e = absurd (omega (arith, skipped 10 (leb (length own) n) NoRow [] Done (omega arith) e .1))
+  serve-ten (Do (Insert set)) e =
       let room : List Case = ((leb promised (length own) && full) gives NoRoom) ∷ [] in
       let one = skipped 10 (not (within d set)) BadSet ((leb mostHeld (length own) gives Full) ∷ room) Done (omega arith) e in
       let two = skipped 10 (leb mostHeld (length own)) Full room Done (omega arith) (one .1) in
@@ -92,11 +94,11 @@ module _ (d : ℕ) (table : List ℕ) (full : Bool) (places : ℕ) (hid : ℕ �
         leb-false mostHeld (length own) (two .0),
         and-right (leb promised (length own)) full three,
       )
-  serve-ten Reset e = absurd (omega arith)
-  serve-ten (Look n) e =
+  serve-ten (Do Reset) e = absurd (omega arith)
+  serve-ten (Ask (Look n)) e =
       absurd (omega (arith, skipped 10 (leb (length (view table hid own)) n) NoRow [] (Seen (at (view table hid own) n)) (omega arith) e .1))
-  serve-ten Count e = absurd (omega arith)
-  serve-ten Distinct e =
+  serve-ten (Ask Count) e = absurd (omega arith)
+  serve-ten (Ask Distinct) e =
       let a : Answer = Listed (length (kept d (view table hid own))) in
       let long : Bool = ltb mostInView (length (view table hid own)) in
       absurd (omega (
@@ -107,39 +109,33 @@ module _ (d : ℕ) (table : List ℕ) (full : Bool) (places : ℕ) (hid : ℕ �
 
   pub ten-serve : (c : Call) → properCall d c ≡ true → promised ≤ length own → length own < mostHeld → full ≡ true → numberOf (serve d table full places hid own c) ≡ 10
   unfolding serve properCall decided
-  ten-serve (Delete t) p lo hi f = absurd (false≢true p)
-  ten-serve (Insert set) p lo hi f = rw (p, lt-leb mostHeld (length own) hi, le-leb promised (length own) lo, f)
-  ten-serve Reset p lo hi f = absurd (false≢true p)
-  ten-serve (Look n) p lo hi f = absurd (false≢true p)
-  ten-serve Count p lo hi f = absurd (false≢true p)
-  ten-serve Distinct p lo hi f = absurd (false≢true p)
+  ten-serve (Do (Delete t)) p lo hi f = absurd (false≢true p)
+  ten-serve (Do (Insert set)) p lo hi f = rw (p, lt-leb mostHeld (length own) hi, le-leb promised (length own) lo, f)
+  ten-serve (Do Reset) p lo hi f = absurd (false≢true p)
+  ten-serve (Ask q) p lo hi f = absurd (false≢true p)
 
   -- a desk with fewer than eight rows has its next proper insert accepted
   pub serve-next : (c : Call) → properCall d c ≡ true → length own < promised → accepted (serve d table full places hid own c) ≡ true
   unfolding serve properCall decided accepted
-  serve-next (Delete t) p h = absurd (false≢true p)
-  serve-next (Insert set) p h = rw (p, lt-leb mostHeld (length own) (omega arith), lt-leb promised (length own) h)
-  serve-next Reset p h = absurd (false≢true p)
-  serve-next (Look n) p h = absurd (false≢true p)
-  serve-next Count p h = absurd (false≢true p)
-  serve-next Distinct p h = absurd (false≢true p)
+  serve-next (Do (Delete t)) p h = absurd (false≢true p)
+  serve-next (Do (Insert set)) p h = rw (p, lt-leb mostHeld (length own) (omega arith), lt-leb promised (length own) h)
+  serve-next (Do Reset) p h = absurd (false≢true p)
+  serve-next (Ask q) p h = absurd (false≢true p)
 
   -- one with fewer than 64 has it where some free place is not owed
   pub serve-free : (c : Call) → properCall d c ≡ true → length own < mostHeld → full ≡ false → accepted (serve d table full places hid own c) ≡ true
   unfolding serve properCall decided accepted
-  serve-free (Delete t) p h f = absurd (false≢true p)
-  serve-free (Insert set) p h f = rw (p, lt-leb mostHeld (length own) h, f, and-false (leb promised (length own)))
-  serve-free Reset p h f = absurd (false≢true p)
-  serve-free (Look n) p h f = absurd (false≢true p)
-  serve-free Count p h f = absurd (false≢true p)
-  serve-free Distinct p h f = absurd (false≢true p)
+  serve-free (Do (Delete t)) p h f = absurd (false≢true p)
+  serve-free (Do (Insert set)) p h f = rw (p, lt-leb mostHeld (length own) h, f, and-false (leb promised (length own)))
+  serve-free (Do Reset) p h f = absurd (false≢true p)
+  serve-free (Ask q) p h f = absurd (false≢true p)
 
   -- the other desks enter through `full` alone, and only by refusal 10
   pub serve-but-ten : (c : Call) → numberOf (serve d table full places hid own c) ≢ 10 → serve d table full places hid own c ≡ serve d table false places hid own c
   unfolding serve decided
-  serve-but-ten (Delete (Table n)) ne = refl
-  serve-but-ten (Delete (Own n)) ne = refl
-  serve-but-ten (Insert set) ne = go (not (within d set)) (leb mostHeld (length own)) (leb promised (length own)) full ne
+  serve-but-ten (Do (Delete (Table n))) ne = refl
+  serve-but-ten (Do (Delete (Own n))) ne = refl
+  serve-but-ten (Do (Insert set)) ne = go (not (within d set)) (leb mostHeld (length own)) (leb promised (length own)) full ne
     where
       go : (a b c f : Bool) → let tests : Bool → Answer = λ x. decided Refused ((a gives BadSet) ∷ (b gives Full) ∷ ((c && x) gives NoRoom) ∷ []) Done in
           numberOf (tests f) ≢ 10 → tests f ≡ tests false
@@ -148,7 +144,5 @@ module _ (d : ℕ) (table : List ℕ) (full : Bool) (places : ℕ) (hid : ℕ �
       go false false true true ne = absurd (ne refl)
       go false false true false ne = refl
       go false false false f ne = refl
-  serve-but-ten Reset ne = refl
-  serve-but-ten (Look n) ne = refl
-  serve-but-ten Count ne = refl
-  serve-but-ten Distinct ne = refl
+  serve-but-ten (Do Reset) ne = refl
+  serve-but-ten (Ask q) ne = refl

@@ -22,7 +22,9 @@ use Rattle.sheet.proofs.OwnAfter.{length-own}
 use Rattle.sheet.proofs.SoundParts.{sound-parts}
 use Rattle.store.specs.declared.Target.the-variants.{Table, Own}
 use Rattle.store.specs.declared.Call.{Call}
-use Rattle.store.specs.declared.Call.the-variants.{Delete, Insert, Reset, Look, Count, Distinct}
+use Rattle.store.specs.declared.Call.the-variants.{Do, Ask}
+use Rattle.store.specs.declared.Change.the-variants.{Delete, Insert, Reset}
+use Rattle.store.specs.declared.Question.the-variants.{Look, Count, Distinct}
 use Rattle.refusals.specs.declared.Refusal.the-variants.{TooLarge, Unsound, OtherTable, NoDesk, NoRow, HiddenAlready, BadSet, Full, NoRoom, ShortList, LongView}
 use Rattle.store.specs.declared.Answer.{Answer}
 use Rattle.store.specs.declared.Answer.the-variants.{Done, Seen, Listed}
@@ -44,19 +46,19 @@ view-most table hid own =
 module _ (d : ℕ) (table : List ℕ) (full : Bool) (places : ℕ) (hid : ℕ → Bool) (own : List ℕ) (small : length table ≤ mostRows) (few : length own ≤ mostHeld) where
   not-served : (c : Call) → numberOf (serve d table full places hid own c) ≢ 12
   unfolding serve decided
-  not-served (Delete (Table n)) e =
+  not-served (Do (Delete (Table n))) e =
       omega (arith, skipped 12 (hid n) HiddenAlready [] Done (omega arith) (skipped 12 (leb (length table) n) NoRow ((hid n gives HiddenAlready) ∷ []) Done (omega arith) e .1) .1)
-  not-served (Delete (Own n)) e = omega (arith, skipped 12 (leb (length own) n) NoRow [] Done (omega arith) e .1)
-  not-served (Insert set) e =
+  not-served (Do (Delete (Own n))) e = omega (arith, skipped 12 (leb (length own) n) NoRow [] Done (omega arith) e .1)
+  not-served (Do (Insert set)) e =
       let room : List Case = ((leb promised (length own) && full) gives NoRoom) ∷ [] in
       let one = skipped 12 (not (within d set)) BadSet ((leb mostHeld (length own) gives Full) ∷ room) Done (omega arith) e in
       let two = skipped 12 (leb mostHeld (length own)) Full room Done (omega arith) (one .1) in
       omega (arith, skipped 12 (leb promised (length own) && full) NoRoom [] Done (omega arith) (two .1) .1)
-  not-served Reset e = omega arith
-  not-served (Look n) e =
+  not-served (Do Reset) e = omega arith
+  not-served (Ask (Look n)) e =
       omega (arith, skipped 12 (leb (length (view table hid own)) n) NoRow [] (Seen (at (view table hid own) n)) (omega arith) e .1)
-  not-served Count e = omega arith
-  not-served Distinct e =
+  not-served (Ask Count) e = omega arith
+  not-served (Ask Distinct) e =
       let rows = length (view table hid own) in
       let a : Answer = Listed (length (kept d (view table hid own))) in
       let short = skipped 12 (ltb places rows) ShortList ((ltb mostInView rows gives LongView) ∷ []) a (omega arith) e in

@@ -19,7 +19,9 @@ use Rattle.sheet.proofs.UptoLaws.{count-yes, count-no, count-ext, length-those,
 use Rattle.sheet.proofs.SoundParts.{sound-parts}
 use Rattle.store.specs.declared.Target.the-variants.{Table, Own}
 use Rattle.store.specs.declared.Call.{Call}
-use Rattle.store.specs.declared.Call.the-variants.{Delete, Insert, Look, Count}
+use Rattle.store.specs.declared.Call.the-variants.{Do, Ask}
+use Rattle.store.specs.declared.Change.the-variants.{Delete, Insert}
+use Rattle.store.specs.declared.Question.the-variants.{Look, Count}
 use Rattle.refusals.specs.declared.Refusal.the-variants.{NoDesk, NoRow, HiddenAlready, NoRoom}
 use Rattle.store.specs.declared.Answer.{Answer}
 use Rattle.store.specs.declared.Answer.the-variants.{Done, Seen, Counted, Refused}
@@ -105,64 +107,64 @@ module _ {d : ℕ} {table : List ℕ} {desks : ℕ} {tell : Store} (begun : acce
   unfolding proper properCall history ownIn
   no-store-always-refuses refuses =
       let good = good-parts d table desks begun in
-      let t = turn zero (Insert 1) [] in
+      let t = turn zero (Do (Insert 1)) [] in
       not-both (keeps .next [] t (and-both (ltb zero desks) (within d 1) (lt-ltb zero desks (good .some-desk)) (within-one d (good .some-value))) (omega arith)) (refuses [] t)
 
   -- ---- a made-up count: the rows in the view, and its inserts less its removals since the last reset
 
   pub no-made-up-count : (past : List Turn) (k : ℕ) (list : List ℕ) → k < desks
-      → tell past (turn k Count list) .answer ≡ Counted (length (seen k past)) (heldBy tell k past)
+      → tell past (turn k (Ask Count) list) .answer ≡ Counted (length (seen k past)) (heldBy tell k past)
   unfolding properCall serve decided
-  no-made-up-count past k list h = answered-alone past k Count list h refl
+  no-made-up-count past k list h = answered-alone past k (Ask Count) list h refl
 
   -- ---- a delete that answers yes and hides nothing
 
-  delete-has : (past : List Turn) (k n : ℕ) (list : List ℕ) → accepted (tell past (turn k (Delete (Table n)) list) .answer) ≡ true
+  delete-has : (past : List Turn) (k n : ℕ) (list : List ℕ) → accepted (tell past (turn k (Do (Delete (Table n))) list) .answer) ≡ true
       → (k < desks) × (n < length table) × (member (hiddenIn (history tell k past)) n ≡ false)
   unfolding properCall serve
   delete-has past k n list t =
-      let p = accepted-alone past k (Delete (Table n)) list refl t in
+      let p = accepted-alone past k (Do (Delete (Table n))) list refl t in
       let hid = member (hiddenIn (history tell k past)) n in
       let q = passed (leb (length table) n) NoRow ((hid gives HiddenAlready) ∷ []) Done (p .1) in
       (p .0, leb-false (length table) n (q .0), passed hid HiddenAlready [] Done (q .1) .0)
 
-  one-row-less : (past : List Turn) (k n : ℕ) (list : List ℕ) → accepted (tell past (turn k (Delete (Table n)) list) .answer) ≡ true
-      → length (seen k past) ≡ suc (length (seen k (turn k (Delete (Table n)) list ∷ past)))
+  one-row-less : (past : List Turn) (k n : ℕ) (list : List ℕ) → accepted (tell past (turn k (Do (Delete (Table n))) list) .answer) ≡ true
+      → length (seen k past) ≡ suc (length (seen k (turn k (Do (Delete (Table n))) list ∷ past)))
   unfolding hiddenIn ownIn member
   one-row-less past k n list t =
       let h = history tell k past in
       let q = delete-has past k n list t in
       let fewer = one-less (λ i. not (member (hiddenIn h) i)) (λ i. not (eqb n i || member (hiddenIn h) i)) (length table) n (q .1) (rw (q .2)) (rw (eq-eqb n n refl))
       (λ i l ne. rw (ne-eqb n i (λ e. ne (sym e)))) in
-      rw (history-next past k (Delete (Table n)) list t)
+      rw (history-next past k (Do (Delete (Table n))) list t)
       (omega (arith, length-view table (member (hiddenIn h)) (ownIn h), length-view table (λ i. eqb n i || member (hiddenIn h) i) (ownIn h)))
 
   -- after an accepted table delete, whatever came before, the desk counts one row less, and the row can't be deleted again
-  pub no-delete-hides-nothing : (past : List Turn) (k n : ℕ) (list : List ℕ) → let t = turn k (Delete (Table n)) list in accepted (tell past t .answer) ≡ true
-      → (list′ : List ℕ) → (r : ℕ) × (tell past (turn k Count list′) .answer ≡ Counted (suc r) (heldBy tell k past))
-      × (tell (t ∷ past) (turn k Count list′) .answer ≡ Counted r (heldBy tell k past))
-      × (tell (t ∷ past) (turn k (Delete (Table n)) list′) .answer ≡ Refused HiddenAlready)
+  pub no-delete-hides-nothing : (past : List Turn) (k n : ℕ) (list : List ℕ) → let t = turn k (Do (Delete (Table n))) list in accepted (tell past t .answer) ≡ true
+      → (list′ : List ℕ) → (r : ℕ) × (tell past (turn k (Ask Count) list′) .answer ≡ Counted (suc r) (heldBy tell k past))
+      × (tell (t ∷ past) (turn k (Ask Count) list′) .answer ≡ Counted r (heldBy tell k past))
+      × (tell (t ∷ past) (turn k (Do (Delete (Table n))) list′) .answer ≡ Refused HiddenAlready)
   unfolding serve decided properCall hiddenIn ownIn member
   no-delete-hides-nothing past k n list t list′ =
-      let after = turn k (Delete (Table n)) list ∷ past in
+      let after = turn k (Do (Delete (Table n))) list ∷ past in
       let q = delete-has past k n list t in
-      let next = history-next past k (Delete (Table n)) list t in (
+      let next = history-next past k (Do (Delete (Table n))) list t in (
         length (seen k after),
         no-made-up-count past k list′ (q .0) ∙ ap (λ (r : ℕ). Counted r (heldBy tell k past)) (one-row-less past k n list t),
         no-made-up-count after k list′ (q .0) ∙ ap (λ (h : List Call). Counted (length (seen k after)) (length (ownIn h))) next,
-        answered-alone after k (Delete (Table n)) list′ (q .0) refl ∙ rw (next, lt-leb (length table) n (q .1), eq-eqb n n refl),
+        answered-alone after k (Do (Delete (Table n))) list′ (q .0) refl ∙ rw (next, lt-leb (length table) n (q .1), eq-eqb n n refl),
       )
 
   -- the same of an own row
-  pub no-own-delete-takes-nothing : (past : List Turn) (k n : ℕ) (list : List ℕ) → let t = turn k (Delete (Own n)) list in accepted (tell past t .answer) ≡ true
-      → (list′ : List ℕ) → (r m : ℕ) × (tell past (turn k Count list′) .answer ≡ Counted (suc r) (suc m)) × (tell (t ∷ past) (turn k Count list′) .answer ≡ Counted r m)
+  pub no-own-delete-takes-nothing : (past : List Turn) (k n : ℕ) (list : List ℕ) → let t = turn k (Do (Delete (Own n))) list in accepted (tell past t .answer) ≡ true
+      → (list′ : List ℕ) → (r m : ℕ) × (tell past (turn k (Ask Count) list′) .answer ≡ Counted (suc r) (suc m)) × (tell (t ∷ past) (turn k (Ask Count) list′) .answer ≡ Counted r m)
   unfolding serve properCall hiddenIn ownIn
   no-own-delete-takes-nothing past k n list t list′ =
-      let after = turn k (Delete (Own n)) list ∷ past in
+      let after = turn k (Do (Delete (Own n))) list ∷ past in
       let h = history tell k past in
-      let p = accepted-alone past k (Delete (Own n)) list refl t in
+      let p = accepted-alone past k (Do (Delete (Own n))) list refl t in
       let there = leb-false (length (ownIn h)) n (passed (leb (length (ownIn h)) n) NoRow [] Done (p .1) .0) in
-      let next = history-next past k (Delete (Own n)) list t in
+      let next = history-next past k (Do (Delete (Own n))) list t in
       let rest = take n (ownIn h) ++ drop (suc n) (ownIn h) in
       let held : length (ownIn h) ≡ suc (length rest) =
       omega (arith, length-append (take n (ownIn h)) (drop (suc n) (ownIn h)), length-take n (ownIn h), length-drop (suc n) (ownIn h)) in
@@ -177,17 +179,17 @@ module _ {d : ℕ} {table : List ℕ} {desks : ℕ} {tell : Store} (begun : acce
   -- ---- a delete that only honours its first call: whatever the desk deleted before, a row that it has not hidden is hidden
 
   delete-done : (past : List Turn) (k n : ℕ) (list : List ℕ) → k < desks → n < length table → member (hiddenIn (history tell k past)) n ≡ false
-      → tell past (turn k (Delete (Table n)) list) .answer ≡ Done
+      → tell past (turn k (Do (Delete (Table n))) list) .answer ≡ Done
   unfolding serve decided properCall
-  delete-done past k n list h l e = answered-alone past k (Delete (Table n)) list h refl ∙ rw (lt-leb (length table) n l, e)
+  delete-done past k n list h l e = answered-alone past k (Do (Delete (Table n))) list h refl ∙ rw (lt-leb (length table) n l, e)
 
-  pub no-delete-honours-its-first-call-only : (past : List Turn) (k n m : ℕ) (list list′ : List ℕ) → let t = turn k (Delete (Table n)) list in
-      accepted (tell past t .answer) ≡ true → m < length table → m ≢ n → member (hiddenIn (history tell k past)) m ≡ false → let t′ = turn k (Delete (Table m)) list′ in
+  pub no-delete-honours-its-first-call-only : (past : List Turn) (k n m : ℕ) (list list′ : List ℕ) → let t = turn k (Do (Delete (Table n))) list in
+      accepted (tell past t .answer) ≡ true → m < length table → m ≢ n → member (hiddenIn (history tell k past)) m ≡ false → let t′ = turn k (Do (Delete (Table m))) list′ in
       (tell (t ∷ past) t′ .answer ≡ Done) × (length (seen k past) ≡ suc (suc (length (seen k (t′ ∷ t ∷ past)))))
   unfolding hiddenIn member accepted
   no-delete-honours-its-first-call-only past k n m list list′ t l ne e =
-      let after = turn k (Delete (Table n)) list ∷ past in
-      let still : member (hiddenIn (history tell k after)) m ≡ false = rw (history-next past k (Delete (Table n)) list t, ne-eqb n m (λ q. ne (sym q))) e in
+      let after = turn k (Do (Delete (Table n))) list ∷ past in
+      let still : member (hiddenIn (history tell k after)) m ≡ false = rw (history-next past k (Do (Delete (Table n))) list t, ne-eqb n m (λ q. ne (sym q))) e in
       let done = delete-done after k m list′ (delete-has past k n list t .0) l still in
       (done, one-row-less past k n list t ∙ ap suc (one-row-less after k m list′ (ap accepted done)))
 
@@ -228,9 +230,9 @@ module _ {d : ℕ} {table : List ℕ} {desks : ℕ} {tell : Store} (begun : acce
   -- ---- a look that shows where rows sit in the class list: it shows the desk's view, and what the others did doesn't tell on it
 
   pub no-look-shows-the-class-list : (past : List Turn) (k n : ℕ) (list : List ℕ) → k < desks → n < length (seen k past)
-      → tell past (turn k (Look n) list) .answer ≡ Seen (at (seen k past) n)
+      → tell past (turn k (Ask (Look n)) list) .answer ≡ Seen (at (seen k past) n)
   unfolding serve decided properCall
-  no-look-shows-the-class-list past k n list h l = answered-alone past k (Look n) list h refl ∙ rw (lt-leb (length (seen k past)) n l)
+  no-look-shows-the-class-list past k n list h l = answered-alone past k (Ask (Look n)) list h refl ∙ rw (lt-leb (length (seen k past)) n l)
 
   pub no-desk-tells-on-another : (past past′ : List Turn) (t : Turn) → properCall d (t .call) ≡ false → history tell (t .desk) past ≡ history tell (t .desk) past′
       → tell past t ≡ tell past′ t

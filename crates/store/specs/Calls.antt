@@ -12,7 +12,9 @@ use Rattle.sheet.specs.Sheets.{own, hides, owed, sound}
 use Rattle.sheet.specs.Changes.{freshSheet, hiding, adding, without, resetting}
 use Rattle.store.specs.declared.Target.the-variants.{Table, Own}
 use Rattle.store.specs.declared.Call.{Call}
-use Rattle.store.specs.declared.Call.the-variants.{Delete, Insert, Reset, Look, Count, Distinct}
+use Rattle.store.specs.declared.Call.the-variants.{Do, Ask}
+use Rattle.store.specs.declared.Change.{Change}
+use Rattle.store.specs.declared.Change.the-variants.{Delete, Insert, Reset}
 use Rattle.refusals.specs.declared.Refusal.the-variants.{Unsound, OtherTable, NoDesk, BadDesks}
 use Rattle.store.specs.declared.Answer.{Answer}
 use Rattle.store.specs.declared.Answer.the-variants.{Done, Refused}
@@ -62,14 +64,16 @@ allCases d table s k c places =
     tableCases mostRows d table ++ (sheetCases d table s k ++ callCases d table (crowded s) places (hides (s .marks) k) (own s k) c)
 
 -- what an accepted call makes of the sheet; 'Nothing else on the sheet changes'
+abbrev pub changedBy : Sheet → ℕ → Change → Sheet
+changedBy s k (Delete (Table n)) = hiding s k n
+changedBy s k (Delete (Own n)) = without s k n (suc n)
+changedBy s k (Insert set) = adding s k set
+changedBy s k Reset = resetting s k
+
+-- 'look, count and distinct hand it back as it came'
 unfoldable pub changed : Sheet → ℕ → Call → Sheet
-changed s k (Delete (Table n)) = hiding s k n
-changed s k (Delete (Own n)) = without s k n (suc n)
-changed s k (Insert set) = adding s k set
-changed s k Reset = resetting s k
-changed s k (Look n) = s
-changed s k Count = s
-changed s k Distinct = s
+changed s k (Do c) = changedBy s k c
+changed s k (Ask q) = s
 
 -- 'A refusal .. hands back the sheet it was handed'
 unfoldable pub sheetAfter : ℕ → List ℕ → Sheet → ℕ → Call → ℕ → Sheet
@@ -80,4 +84,4 @@ replied d table s k c places = record { answer = answered d table s k c places; 
 
 -- what desk k is told: the answer, and its list
 abbrev pub told : ℕ → List ℕ → Sheet → ℕ → Call → List ℕ → Told
-told d table s k c list = telling d table (hides (s .marks) k) (own s k) list (answered d table s k c (length list))
+told d table s k c list = telling d table (hides (s .marks) k) (own s k) c list (answered d table s k c (length list))

@@ -12,7 +12,8 @@ use Rattle.sheet.specs.declared.Sheet.{Sheet}
 use Rattle.sheet.specs.Upto.{sumTo}
 use Rattle.store.specs.declared.Target.the-variants.{Table, Own}
 use Rattle.store.specs.declared.Call.{Call}
-use Rattle.store.specs.declared.Call.the-variants.{Delete, Insert, Reset, Look, Count, Distinct}
+use Rattle.store.specs.declared.Call.the-variants.{Do, Ask}
+use Rattle.store.specs.declared.Change.the-variants.{Delete, Insert, Reset}
 use Rattle.refusals.specs.declared.Refusal.the-variants.{NoDesk}
 use Rattle.store.specs.declared.Answer.the-variants.{Refused}
 use Rattle.refusals.specs.Cases.{_gives_, decided}
@@ -35,24 +36,20 @@ Store = List Turn → Turn → Told
 -- 'hidden are the numbers in its accepted table deletes'
 unfoldable pub hiddenIn : List Call → List ℕ
 hiddenIn [] = []
-hiddenIn (Delete (Table n) ∷ h) = n ∷ hiddenIn h
-hiddenIn (Delete (Own n) ∷ h) = hiddenIn h
-hiddenIn (Insert set ∷ h) = hiddenIn h
-hiddenIn (Reset ∷ h) = []
-hiddenIn (Look n ∷ h) = hiddenIn h
-hiddenIn (Count ∷ h) = hiddenIn h
-hiddenIn (Distinct ∷ h) = hiddenIn h
+hiddenIn (Do (Delete (Table n)) ∷ h) = n ∷ hiddenIn h
+hiddenIn (Do (Delete (Own n)) ∷ h) = hiddenIn h
+hiddenIn (Do (Insert set) ∷ h) = hiddenIn h
+hiddenIn (Do Reset ∷ h) = []
+hiddenIn (Ask q ∷ h) = hiddenIn h
 
 -- 'its own rows are its accepted inserts in order, less those that its accepted own deletes took out'
 unfoldable pub ownIn : List Call → List ℕ
 ownIn [] = []
-ownIn (Delete (Table n) ∷ h) = ownIn h
-ownIn (Delete (Own n) ∷ h) = take n (ownIn h) ++ drop (suc n) (ownIn h)
-ownIn (Insert set ∷ h) = ownIn h ++ (set ∷ [])
-ownIn (Reset ∷ h) = []
-ownIn (Look n ∷ h) = ownIn h
-ownIn (Count ∷ h) = ownIn h
-ownIn (Distinct ∷ h) = ownIn h
+ownIn (Do (Delete (Table n)) ∷ h) = ownIn h
+ownIn (Do (Delete (Own n)) ∷ h) = take n (ownIn h) ++ drop (suc n) (ownIn h)
+ownIn (Do (Insert set) ∷ h) = ownIn h ++ (set ∷ [])
+ownIn (Do Reset ∷ h) = []
+ownIn (Ask q ∷ h) = ownIn h
 
 unfoldable pub member : List ℕ → ℕ → Bool
 member [] n = false
@@ -62,7 +59,7 @@ member (m ∷ ms) n = eqb m n || member ms n
 -- 5 follows from the number of desks begun.'
 unfoldable pub alone : ℕ → List ℕ → ℕ → List Call → Turn → Told
 alone d table desks h t =
-    telling d table (member (hiddenIn h)) (ownIn h) (t .list)
+    telling d table (member (hiddenIn h)) (ownIn h) (t .call) (t .list)
     (decided Refused ((leb desks (t .desk) gives NoDesk) ∷ []) (serve d table false (length (t .list)) (member (hiddenIn h)) (ownIn h) (t .call)))
 
 -- ---- what a store's turns come to
@@ -89,12 +86,10 @@ module _ (tell : Store) where
 
 -- 'An insert is proper when its desk exists and 8 doesn't apply.'
 unfoldable pub properCall : ℕ → Call → Bool
-properCall d (Delete t) = false
-properCall d (Insert set) = within d set
-properCall d Reset = false
-properCall d (Look n) = false
-properCall d Count = false
-properCall d Distinct = false
+properCall d (Do (Delete t)) = false
+properCall d (Do (Insert set)) = within d set
+properCall d (Do Reset) = false
+properCall d (Ask q) = false
 
 unfoldable pub proper : ℕ → ℕ → Turn → Bool
 proper d desks t = ltb (t .desk) desks && properCall d (t .call)

@@ -12,9 +12,11 @@ ghost use Rattle.store.specs.declared.Answer.the-variants.{Done, Seen, L
 ghost use Rattle.refusals.specs.Cases.{decided};
 ghost use Rattle.store.specs.Calls.{deskCases};
 ghost use Rattle.store.specs.Desks.{rowCases, hideCases, insertCases, listCases, listAfter};
-ghost use Rattle.store.specs.Serving.{Trusted, Served};
+ghost use Rattle.store.specs.Serving.{Trusted, ChangeJudged, Replied, Served};
 use crate::Answer;
 use crate::Call;
+use crate::Change;
+use crate::Question;
 use crate::Target;
 use crate::view;
 use refusals::Refusal;
@@ -100,13 +102,62 @@ fn look(rows: &[u64], n: usize) -> Answer
 // The kept rows of the view are listed.
 fn list_kept(d: usize, rows: &[u64], list: &mut [usize]) -> Answer
     requires { ⌜ (length (now rows) ≤ mostInView) × InColumn d (now rows) ⌝ }
-    ensures { λ r. ⌜ (r ≡ decided Refused (listCases (length (now (list .entry))) (length (now (rows .entry)))) (Listed (length (kept d (now (rows .entry)))))) × (now (list .exit) ≡ listAfter d (now (rows .entry)) r (now (list .entry))) ⌝ }
+    ensures { λ r. ⌜ (r ≡ decided Refused (listCases (length (now (list .entry))) (length (now (rows .entry)))) (Listed (length (kept d (now (rows .entry))))))
+        × (now (list .exit) ≡ listAfter (kept d (now (rows .entry))) r (now (list .entry))) ⌝ }
 {
     if list.len() < rows.len() {
         return Answer::Refused(Refusal::ShortList);
     }
     let n = distinct::distinct(d, rows, list);
     Answer::Listed(n)
+}
+
+// What a question is answered, of the rows that the desk sees, `held` of them its own; and what it writes.
+fn answer_question(
+    d: usize,
+    rows: &[u64],
+    held: usize,
+    question: Question,
+    list: &mut [usize],
+) -> Answer
+    requires { ⌜ (length (now rows) ≤ mostInView) × InColumn d (now rows) ⌝ }
+    ensures { λ r. ⌜ Replied d (now (rows .entry)) held question (now (list .entry)) r (now (list .exit)) ⌝ }
+{
+    match question {
+        Question::Look(n) => look(rows, n),
+        Question::Count => Answer::Counted(rows.len(), held),
+        Question::Distinct => list_kept(d, rows, list),
+    }
+}
+
+// Whether a change may be made, by the parts of a sound sheet: Done, or why not.
+fn judge_change<'a>(
+    table: &[u64],
+    d: usize,
+    desks: usize,
+    used: usize,
+    marks: &'a [u64; Sheet::MARKS],
+    sets: &'a [u64; Sheet::PLACES],
+    owners: &'a [usize; Sheet::PLACES],
+    counts: &[usize; Sheet::DESKS],
+    desk: usize,
+    change: Change,
+) -> Answer
+    requires { ⌜ Trusted d (now table) (sheetOf d (length (now table)) desks used (now marks) (now sets) (now owners)) (now counts) desk ⌝ }
+    ensures { λ r. ⌜ ChangeJudged d (now (table .entry))
+        (sheetOf d (length (now (table .entry))) desks used (now (marks .entry)) (now (sets .entry)) (now (owners .entry))) desk change r ⌝ }
+{
+    match change {
+        Change::Delete(target) => match target {
+            Target::Table(n) => delete_table(table.len(), marks, desk, n),
+            Target::Own(n) => delete_own(counts[desk], n),
+        },
+        Change::Insert(set) => {
+            let owed = sheet::shares::owed(desks, counts);
+            insert(d, used + owed == Sheet::PLACES, counts[desk], set)
+        }
+        Change::Reset => Answer::Done,
+    }
 }
 
 // What the desk is told: the answer, and for DISTINCT the kept positions in its list.
@@ -124,33 +175,27 @@ pub fn serve<'a>(
     list: &mut [usize],
 ) -> Answer
     requires { ⌜ Trusted d (now table) (sheetOf d (length (now table)) desks used (now marks) (now sets) (now owners)) (now counts) desk ⌝ }
-    ensures { λ r. ⌜ Served d (now (table .entry)) (sheetOf d (length (now (table .entry))) desks used (now (marks .entry)) (now (sets .entry)) (now (owners .entry))) desk call (now (list .entry)) r (now (list .exit)) ⌝ }
+    ensures { λ r. ⌜ Served d (now (table .entry))
+        (sheetOf d (length (now (table .entry))) desks used (now (marks .entry)) (now (sets .entry)) (now (owners .entry))) desk call
+        (now (list .entry)) r (now (list .exit)) ⌝ }
 {
-    let held = counts[desk];
     match call {
-        Call::Delete(target) => match target {
-            Target::Table(n) => delete_table(table.len(), marks, desk, n),
-            Target::Own(n) => delete_own(held, n),
-        },
-        Call::Insert(set) => {
-            let owed = sheet::shares::owed(desks, counts);
-            insert(d, used + owed == Sheet::PLACES, held, set)
-        }
-        Call::Reset => Answer::Done,
-        Call::Look(n) => {
+        Call::Do(change) => judge_change(
+            table,
+            d,
+            desks,
+            used,
+            marks,
+            sets,
+            owners,
+            counts,
+            desk,
+            change,
+        ),
+        Call::Ask(question) => {
             let mut rows = [0u64; Sheet::VIEW];
             let many = view::gather(table, marks, desk, used, sets, owners, &mut rows);
-            look(&rows[..many], n)
-        }
-        Call::Count => {
-            let mut rows = [0u64; Sheet::VIEW];
-            let many = view::gather(table, marks, desk, used, sets, owners, &mut rows);
-            Answer::Counted(many, held)
-        }
-        Call::Distinct => {
-            let mut rows = [0u64; Sheet::VIEW];
-            let many = view::gather(table, marks, desk, used, sets, owners, &mut rows);
-            list_kept(d, &rows[..many], list)
+            answer_question(d, &rows[..many], counts[desk], question, list)
         }
     }
 }

@@ -17,14 +17,24 @@ pub enum Target {
     Own(usize),
 }
 
-// The calls of a desk.
-pub enum Call {
+// What a desk may do to what it sees: `Insert` holds the set.
+pub enum Change {
     Delete(Target),
     Insert(u64),
     Reset,
+}
+
+// What a desk may ask: a question hands the sheet back as it came.
+pub enum Question {
     Look(usize),
     Count,
     Distinct,
+}
+
+// The calls of a desk.
+pub enum Call {
+    Do(Change),
+    Ask(Question),
 }
 
 // What is answered: a change is done; the set at a position; the rows in the view and the own rows; how many positions were listed; or a refusal.

@@ -1,9 +1,11 @@
 // A desk's call on the parts of a sheet, altered where they lie.
 ghost use mathlib.Core.Path.{_≡_};
 ghost use Rattle.sheet.specs.Surveys.{sheetOf};
+ghost use Rattle.store.specs.declared.Call.the-variants.{Do};
 ghost use Rattle.store.specs.Serving.{Possible, Responded, Changed, CarriedOut};
 use crate::Answer;
 use crate::Call;
+use crate::Change;
 use crate::Target;
 use crate::accepted;
 use crate::desk;
@@ -26,7 +28,8 @@ fn respond<'a>(
     call: Call,
     list: &mut [usize],
 ) -> Answer
-    ensures { λ r. ⌜ Responded d (now (table .entry)) (sheetOf sheetd rows desks used (now (marks .entry)) (now (sets .entry)) (now (owners .entry))) desk call (now (list .entry)) r (now (list .exit)) ⌝ }
+    ensures { λ r. ⌜ Responded d (now (table .entry))
+        (sheetOf sheetd rows desks used (now (marks .entry)) (now (sets .entry)) (now (owners .entry))) desk call (now (list .entry)) r (now (list .exit)) ⌝ }
 {
     let first = table::judge(table, d);
     if !accepted(first) {
@@ -55,38 +58,36 @@ fn respond<'a>(
     )
 }
 
-// What an accepted call makes of the marks and the places, where they lie. Answers how many places are used then.
-fn change(
+// What an accepted change makes of the marks and the places, where they lie. Answers how many places are used then.
+fn make(
     used: usize,
     marks: &mut [u64; Sheet::MARKS],
     sets: &mut [u64; Sheet::PLACES],
     owners: &mut [usize; Sheet::PLACES],
     desk: usize,
-    call: Call,
+    change: Change,
 ) -> usize
-    requires { ⌜ Possible (sheetOf 0 0 0 used (now marks) (now sets) (now owners)) desk call ⌝ }
-    ensures { λ r. ⌜ Changed used (now (marks .entry)) (now (sets .entry)) (now (owners .entry)) desk call r (now (marks .exit)) (now (sets .exit)) (now (owners .exit)) ⌝ }
+    requires { ⌜ Possible (sheetOf 0 0 0 used (now marks) (now sets) (now owners)) desk (Do change) ⌝ }
+    ensures { λ r. ⌜ Changed used (now (marks .entry)) (now (sets .entry)) (now (owners .entry)) desk (Do change)
+        r (now (marks .exit)) (now (sets .exit)) (now (owners .exit)) ⌝ }
 {
-    match call {
-        Call::Delete(target) => match target {
+    match change {
+        Change::Delete(target) => match target {
             Target::Table(n) => {
                 sheet::marks::hide(marks, desk, n);
                 used
             }
             Target::Own(n) => sheet::removals::take_out(desk, n, n + 1, used, sets, owners),
         },
-        Call::Insert(set) => {
+        Change::Insert(set) => {
             sets[used] = set;
             owners[used] = desk;
             used + 1
         }
-        Call::Reset => {
+        Change::Reset => {
             sheet::marks::show_all(marks, desk);
             sheet::removals::take_out(desk, 0, Sheet::PLACES, used, sets, owners)
         }
-        Call::Look(_) => used,
-        Call::Count => used,
-        Call::Distinct => used,
     }
 }
 
@@ -112,7 +113,9 @@ pub fn carry_out(
     call: Call,
     list: &mut [usize],
 ) -> Outcome
-    ensures { λ r. ⌜ CarriedOut d (now (table .entry)) (sheetOf sheetd rows desks used (now (marks .entry)) (now (sets .entry)) (now (owners .entry))) desk call (now (list .entry)) (r .answer) (sheetOf sheetd rows desks (r .used) (now (marks .exit)) (now (sets .exit)) (now (owners .exit))) (now (list .exit)) ⌝ }
+    ensures { λ r. ⌜ CarriedOut d (now (table .entry))
+        (sheetOf sheetd rows desks used (now (marks .entry)) (now (sets .entry)) (now (owners .entry))) desk call (now (list .entry)) (r .answer)
+        (sheetOf sheetd rows desks (r .used) (now (marks .exit)) (now (sets .exit)) (now (owners .exit))) (now (list .exit)) ⌝ }
 {
     let answer = respond(
         table,
@@ -131,7 +134,10 @@ pub fn carry_out(
     if !accepted(answer) {
         return Outcome { answer, used };
     }
-    let after = change(used, marks, sets, owners, desk, call);
+    let Call::Do(change) = call else {
+        return Outcome { answer, used };
+    };
+    let after = make(used, marks, sets, owners, desk, change);
     Outcome {
         answer,
         used: after,

@@ -7,13 +7,14 @@ use borrow.Author.Tests.{lt-ltb, le-ltb}
 use Rattle.theory.specs.Kept.{kept}
 use Rattle.store.specs.declared.Answer.the-variants.{Listed}
 use Rattle.refusals.specs.Cases.{decided}
+use Rattle.store.specs.Answers.{accepted}
 use Rattle.store.specs.Desks.{listAfter}
 use borrow.Author.Needs.{needs}
 use Rattle.store.proofs.desk.list_kept.Statement.{statement}
 use Rattle.store.proofs.desk.list_kept.Tie as tie
 
 returns : tie.Need-returns
-unfolding decided listAfter
+unfolding decided listAfter accepted
 returns c = (simp (lt-ltb _ _ (c .if1 .taken)), refl)
 
 distinct-requires : tie.Need-distinct-requires
@@ -23,7 +24,7 @@ same-length : tie.Need-same-length
 same-length c = search needs
 
 returns-2 : tie.Need-returns-2
-unfolding decided listAfter
+unfolding decided listAfter accepted
 returns-2 c = let e = c .before .before .before .before .before .before .before in
     let o = c .before .before .distinct .ensures in (
       simp (le-ltb _ _ (c .before .before .before .before .if1 .left), le-ltb _ _ (e .pre .0)) (ap Listed (o .0)),

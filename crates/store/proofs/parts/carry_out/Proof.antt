@@ -1,11 +1,22 @@
--- `carry_out` meets its contract: the answer, and the change where it is accepted. Assumes nothing.
-use mathlib.Core.Path.{sym, _∙_}
+-- `carry_out` meets its contract: the answer, and the change where one is accepted. Assumes nothing.
+use mathlib.Core.Path.{_≡_, sym, ap, _∙_}
+use mathlib.Core.Bool.{true}
 use borrow.Author.Tests.{not-true, not-false}
-use Rattle.sheet.specs.Surveys.{sheetOf}
-use Rattle.store.proofs.Replying.{carried-refused, carried-accepted, room-in-parts}
 use borrow.Author.Needs.{needs}
+use Rattle.sheet.specs.declared.Sheet.{Sheet}
+use Rattle.sheet.specs.Surveys.{sheetOf}
+use Rattle.store.specs.Answers.{accepted}
+use Rattle.store.proofs.Replying.{carried-refused, carried-accepted, carried-question, room-in-parts}
 use Rattle.store.proofs.parts.carry_out.Statement.{statement}
 use Rattle.store.proofs.parts.carry_out.Tie as tie
+
+-- the sheet that the arguments are parts of
+abbrev sheetAt : tie.Start → Sheet
+sheetAt e = sheetOf (e .args .sheetd) (e .args .rows) (e .args .desks) (e .args .used) (e .args .marks .now) (e .args .sets .now) (e .args .owners .now)
+
+-- once the answer accepts
+accepted-at : (c : tie.Else1) → accepted (c .before .before .before .before .respond .result) ≡ true
+accepted-at c = sym (c .before .accepted .ensures) ∙ not-false (c .before .accepted .result) (c .if1 .left)
 
 respond-requires : tie.Need-respond-requires
 respond-requires c κs = search needs
@@ -18,24 +29,38 @@ same-length c = search needs
 
 returns : tie.Need-returns
 returns c =
-    let e = c .before .before .before .before .before .before .before .before .before .before .before .args in
-    let s = (sheetOf (e .sheetd) (e .rows) (e .desks) (e .used) (e .marks .now) (e .sets .now) (e .owners .now)) in
-    carried-refused (e .d) (e .table .now) s (e .desk) (e .call) (e .list .now) _ _ (c .before .before .before .before .respond .ensures) (sym (c .before .accepted .ensures) ∙ not-true (c .before .accepted .result) (c .if1 .taken))
+    let e = c .before .before .before .before .before .before .before .before .before .before .before in
+    carried-refused (e .args .d) (e .args .table .now) (sheetAt e) (e .args .desk) (e .args .call) (e .args .list .now) _ _ (c .before .before .before .before .respond .ensures)
+    (sym (c .before .accepted .ensures) ∙ not-true (c .before .accepted .result) (c .if1 .taken))
 
-change-requires : tie.Need-change-requires
-change-requires c κs =
-    let e = c .before .before .before .before .before .before .before .before .before .before .before .before .before .before .args in
-    let s = (sheetOf (e .sheetd) (e .rows) (e .desks) (e .used) (e .marks .now) (e .sets .now) (e .owners .now)) in
-    room-in-parts s (e .desk) (e .call) (c .before .before .before .before .before .before .before .respond .ensures .room (sym (c .before .before .before .before .accepted .ensures) ∙ not-false (c .before .before .before .before .accepted .result) (c .before .before .before .if1 .left)))
+enum-known-call : tie.Need-enum-known-call
+enum-known-call c = search needs
+
+enum-told : tie.Need-enum-told
+enum-told c = search needs
 
 same-length-2 : tie.Need-same-length-2
 same-length-2 c = search needs
 
 returns-2 : tie.Need-returns-2
 returns-2 c =
-    let e = c .before .before .before .before .before .before .before .before .before .before .before .before .before .before .before .args in
-    let s = (sheetOf (e .sheetd) (e .rows) (e .desks) (e .used) (e .marks .now) (e .sets .now) (e .owners .now)) in
-    carried-accepted (e .d) (e .table .now) s (e .desk) (e .call) (e .list .now) _ _ (c .before .before .before .before .before .before .before .before .respond .ensures) (sym (c .before .before .before .before .before .accepted .ensures) ∙ not-false (c .before .before .before .before .before .accepted .result) (c .before .before .before .before .if1 .left)) _ (c .change .ensures (e .sheetd) (e .rows) (e .desks))
+    let e = c .before .before .before .before .before .before .before .before .before .before .before .before .before in
+    carried-question (e .args .d) (e .args .table .now) (sheetAt e) (e .args .desk) (e .args .call) (e .args .list .now) _ _ (c .before .before .before .before .before .before .respond .ensures)
+    (accepted-at (c .before .before)) _ (c .enum-told .given .1)
+
+make-requires : tie.Need-make-requires
+make-requires c κs =
+    let e = c .before .before .before .before .before .before .before .before .before .before .before .before .before .before .before .before .before in
+    room-in-parts (sheetAt e) (e .args .desk) (c .before .before .before .before .call .given .1) (c .before .before .before .before .before .before .before .before .before .before .respond .ensures .room (accepted-at (c .before .before .before .before .before .before)))
+
+same-length-3 : tie.Need-same-length-3
+same-length-3 c = search needs
+
+returns-3 : tie.Need-returns-3
+returns-3 c =
+    let e = c .before .before .before .before .before .before .before .before .before .before .before .before .before .before .before .before .before .before in
+    carried-accepted (e .args .d) (e .args .table .now) (sheetAt e) (e .args .desk) (e .args .call) (e .args .list .now) _ _ (c .before .before .before .before .before .before .before .before .before .before .before .respond .ensures)
+    (accepted-at (c .before .before .before .before .before .before .before)) _ (rw (c .before .before .before .before .before .call .given .1) (c .make .ensures (e .args .sheetd) (e .args .rows) (e .args .desks)))
 
 pub carry-out-spec : {M : Type 1} → statement M
 carry-out-spec =
@@ -45,6 +70,10 @@ carry-out-spec =
     accepted-requires
     same-length
     returns
-    change-requires
+    enum-known-call
+    enum-told
     same-length-2
-    returns-2)
+    returns-2
+    make-requires
+    same-length-3
+    returns-3)

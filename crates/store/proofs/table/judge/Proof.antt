@@ -19,12 +19,12 @@ enum-known-judged : tie.Need-enum-known-judged
 enum-known-judged c = search needs
 
 returns : tie.Need-returns
-returns c = 
+returns c =
     let cases = tableCases mostRows (c .before .before .before .before .args .d) (c .before .before .before .before .args .table .now) in
     sym (stands Refused cases (judged-right cases (sym (c .before .before .judge .ensures) ∙ c .enum-told .given .1)) Done)
 
 returns-2 : tie.Need-returns-2
-returns-2 c = 
+returns-2 c =
     let cases = tableCases mostRows (c .before .before .before .before .before .args .d) (c .before .before .before .before .before .args .table .now) in
     sym (refuses Refused cases _ (judged-refused cases _ (sym (c .before .before .before .judge .ensures) ∙ c .before .judged .given .1)) Done)
 

@@ -1,0 +1,49 @@
+-- `answer_question` meets its contract: each question is handed to its own part. Assumes nothing.
+use mathlib.Core.Path.{refl}
+use borrow.Author.Needs.{needs}
+use Rattle.refusals.specs.Cases.{decided}
+use Rattle.store.proofs.Serving.{nothing-written}
+use Rattle.store.proofs.desk.answer_question.Statement.{statement}
+use Rattle.store.proofs.desk.answer_question.Tie as tie
+
+enum-known-question : tie.Need-enum-known-question
+enum-known-question c = search needs
+
+look-requires : tie.Need-look-requires
+look-requires c κs = search needs
+
+enum-told : tie.Need-enum-told
+enum-told c = search needs
+
+enum-told-2 : tie.Need-enum-told-2
+enum-told-2 c = search needs
+
+list-kept-requires : tie.Need-list-kept-requires
+list-kept-requires c κs = search needs
+
+returns : tie.Need-returns
+returns c = rw (c .before .before .question .given .1) record { answer-is = c .look .ensures; list-is = nothing-written _ _ }
+
+returns-2 : tie.Need-returns-2
+unfolding decided
+returns-2 c = rw (c .enum-told .given .1) record { answer-is = refl; list-is = nothing-written _ _ }
+
+same-length : tie.Need-same-length
+same-length c = search needs
+
+returns-3 : tie.Need-returns-3
+returns-3 c = let o = c .before .before .list-kept .ensures in rw (c .before .before .before .before .enum-told2 .given .1) record { answer-is = o .0; list-is = o .1 }
+
+pub answer-question-spec : {M : Type 1} → statement M
+answer-question-spec =
+    tie.close
+    (tie.spec
+    enum-known-question
+    look-requires
+    enum-told
+    enum-told-2
+    list-kept-requires
+    returns
+    returns-2
+    same-length
+    returns-3)

@@ -1,0 +1,88 @@
+-- `judge_change` meets its contract: each change is handed to its own part. Assumes nothing.
+use mathlib.Core.Path.{refl, ap, _∙_}
+use native.Mathlib.Omega.{arith}
+use borrow.Author.Needs.{needs}
+use Rattle.refusals.specs.Cases.{decided}
+use Rattle.store.specs.declared.Change.the-variants.{Delete}
+use Rattle.store.proofs.Trusting.{limits}
+use Rattle.store.proofs.Serving.{judged-take, judged-insert}
+use Rattle.store.proofs.desk.judge_change.Statement.{statement}
+use Rattle.store.proofs.desk.judge_change.Tie as tie
+
+enum-known-change : tie.Need-enum-known-change
+enum-known-change c = search needs
+
+enum-known-target : tie.Need-enum-known-target
+enum-known-target c = search needs
+
+delete-table-requires : tie.Need-delete-table-requires
+delete-table-requires c κs = let L = limits _ _ _ _ _ (c .before .before .before .before .before .before .before .pre) in (L .desk, L .table-rows)
+
+enum-known-target-2 : tie.Need-enum-known-target-2
+enum-known-target-2 c = search needs
+
+mul-delete-own : tie.Need-mul-delete-own
+mul-delete-own c = record { fits = omega (arith, limits _ _ _ _ _ (c .before .before .before .before .before .before .before .pre) .desk) }
+
+element-copy-out-delete-own : tie.Need-element-copy-out-delete-own
+element-copy-out-delete-own c = limits _ _ _ _ _ (c .before .before .before .before .before .before .before .pre) .desk
+
+delete-own-requires : tie.Need-delete-own-requires
+delete-own-requires c κs = search needs
+
+enum-known-change-2 : tie.Need-enum-known-change-2
+enum-known-change-2 c = search needs
+
+owed-requires : tie.Need-owed-requires
+owed-requires c κs = (limits _ _ _ _ _ (c .before .before .before .before .before .pre) .desks, search needs)
+
+add-insert : tie.Need-add-insert
+add-insert c = record { fits = omega (arith, limits _ _ _ _ _ (c .before .before .before .before .before .before .pre) .used, c .owed .ensures .1) }
+
+mul-insert : tie.Need-mul-insert
+mul-insert c = record { fits = omega (arith, limits _ _ _ _ _ (c .before .before .before .before .before .before .pre) .desk) }
+
+element-copy-out-insert : tie.Need-element-copy-out-insert
+element-copy-out-insert c = limits _ _ _ _ _ (c .before .before .before .before .before .before .pre) .desk
+
+insert-requires : tie.Need-insert-requires
+insert-requires c κs = limits _ _ _ _ _ (c .before .before .before .before .before .before .before .pre) .values
+
+enum-told : tie.Need-enum-told
+enum-told c = search needs
+
+returns : tie.Need-returns
+returns c = rw (c .before .before .before .before .before .change .given .1 ∙ ap Delete (c .before .before .target .given .1)) (c .delete-table .ensures)
+
+returns-2 : tie.Need-returns-2
+returns-2 c = rw (c .before .before .before .before .before .before .change .given .1 ∙ ap Delete (c .before .before .before .target2 .given .1)) (judged-take (c .before .before .before .before .before .before .before .before .before .pre) _ _ (c .delete-own .ensures))
+
+returns-3 : tie.Need-returns-3
+returns-3 c = rw (c .before .before .before .before .before .change2 .given .1) (judged-insert (c .before .before .before .before .before .before .before .before .pre) _ _ (c .before .before .owed .ensures .0) _ (c .insert .ensures))
+
+returns-4 : tie.Need-returns-4
+unfolding decided
+returns-4 c = rw (c .enum-told .given .1) refl
+
+pub judge-change-spec : {M : Type 1} → statement M
+judge-change-spec =
+    tie.close
+    (tie.spec
+    enum-known-change
+    enum-known-target
+    delete-table-requires
+    enum-known-target-2
+    mul-delete-own
+    element-copy-out-delete-own
+    delete-own-requires
+    enum-known-change-2
+    owed-requires
+    add-insert
+    mul-insert
+    element-copy-out-insert
+    insert-requires
+    enum-told
+    returns
+    returns-2
+    returns-3
+    returns-4)
