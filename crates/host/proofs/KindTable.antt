@@ -1,9 +1,8 @@
 -- What each kind of call is, and what a host is told of each answer, as the header prints it. Assumes nothing.
 use Prim.Native.Nat.{ℕ, _<_}
 use mathlib.Core.Path.{_≡_, refl}
-use mathlib.Core.List.{List, [], _∷_, map}
+use mathlib.Core.List.{[], _∷_, map}
 use native.Mathlib.Omega.{arith}
-use lib.Dec.{eqb}
 use borrow.Author.Tests.{ne-eqb}
 use Rattle.refusals.specs.declared.Refusal.the-variants.{BadRow, NoRoom}
 use Rattle.store.specs.declared.Target.the-variants.{Table, Own}
@@ -13,7 +12,6 @@ use Rattle.store.specs.declared.Question.the-variants.{Look, Count, Distinct}
 use Rattle.store.specs.declared.Answer.the-variants.{Done, Seen, Counted, Listed, Refused}
 use Rattle.distinct.specs.declared.Answer.the-variants as view
 use Rattle.host.specs.declared.spoken.Told.{Told}
-use Rattle.host.specs.declared.spoken.Asked.{Asked}
 use Rattle.host.specs.declared.spoken.Asked.the-variants.{One, Nothing}
 use Rattle.host.specs.Numbers.{toldKept}
 use Rattle.host.specs.Spoken.{askedBy, toldOf}

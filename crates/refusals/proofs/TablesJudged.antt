@@ -40,7 +40,7 @@ pub record TableRight (most d : ℕ) (table : List ℕ) : Type 0 where
   pub small : length table ≤ most
   pub none-bad : badRow d table ≡ Nothing
 
-or-no : (a b : Bool) → (a || b) ≡ false → (a ≡ false) × (b ≡ false)
+pub or-no : (a b : Bool) → (a || b) ≡ false → (a ≡ false) × (b ≡ false)
 or-no false b e = (refl, e)
 or-no true b e = absurd (false≢true (sym e))
 

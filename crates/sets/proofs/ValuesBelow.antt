@@ -90,11 +90,6 @@ within-has d r v e h = has-less d r v (within-less d r e) h
 pub minus-word : (k a b : ℕ) → a < 2 ^ k → minus a b < 2 ^ k
 minus-word k a b h = less-has k (minus a b) (λ v e. has-less k a v h (minus-out a b v e .0))
 
-pub union-less : (d : ℕ) (rows : List ℕ) → ((r : ℕ) → List·Memᴰ r rows → r < 2 ^ d) → union rows < 2 ^ d
-unfolding union
-union-less d [] f = pow-pos d
-union-less d (r ∷ rows) f = or-lt d r (union rows) (f r (List·Memᴰ·head refl)) (union-less d rows (λ q m. f q (List·Memᴰ·tail m)))
-
 -- ---- a subset has nothing outside
 
 -- so that one test against the values that b has not answers for any a

@@ -5,7 +5,7 @@ use mathlib.Core.Bool.{Bool, true, false, not, cond, _&&_}
 use mathlib.Core.List.{List, [], _∷_, _++_, append-assoc, append-nil}
 use native.Mathlib.Omega.{arith}
 use lib.Dec.{eqb, leb, ltb}
-use lib.ListN.{length, set, take, drop, getD, replicate, length-set, replicate-append-replicate}
+use lib.ListN.{length, set, take, drop, replicate, length-set, replicate-append-replicate}
 use lib.Seq.{drop-cons, getD-drop, take-suc-set, take-set-le, drop-set-lt, length-take-le, take-all}
 use Rattle.sets.specs.Limits.{mostPlaces}
 use Rattle.theory.specs.Pairings.{at}
@@ -13,7 +13,7 @@ use Rattle.sheet.specs.Upto.{countTo, those}
 use Rattle.sheet.specs.Sheets.{owns}
 use Rattle.sheet.specs.Changes.{padded, stays}
 use Rattle.sheet.specs.Removals.{ClosedUp, TakenOut}
-use Rattle.sheet.proofs.UptoLaws.{count-yes, count-no, count-le, those-yes, those-no}
+use Rattle.sheet.proofs.UptoLaws.{count-le, those-yes, those-no}
 
 -- ---- one list
 

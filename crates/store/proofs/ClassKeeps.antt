@@ -121,7 +121,7 @@ module _ {d : ℕ} {table : List ℕ} {desks : ℕ} (good : Good d table desks) 
             let there = leb-false desks (t .desk) e in
             let g = agrees good past (t .desk) there in
             let hid = hides (s .marks) (t .desk) in
-            let same : (n : ℕ) → n < length table → hid n ≡ member (hiddenIn h) n = λ n l. g .marks n (omega (arith, good .small)) in
+            let same : (n : ℕ) → n < length table → hid n ≡ member (hiddenIn h) n = λ n l. g .marks n (omega (arith, good .right .small)) in
             ap (telling d table hid (own s (t .desk)) (t .call) (t .list))
             (told-served there ∙ serve-but-ten d table (crowded s) (length (t .list)) hid (own s (t .desk)) (t .call) (λ q. ne (ap numberOf (told-served there) ∙ q)))
             ∙ ap (λ (o : List ℕ). telling d table hid o (t .call) (t .list) (mine hid o)) (g .rows)

@@ -60,7 +60,7 @@ module _ {d : ℕ} {table : List ℕ} {desks : ℕ} (good : Good d table desks) 
     place set a = room s k (r .stays-sound) (omega (arith, r .same-desks)) (has-room s (r .stays-sound) k (a .2))
 
     narrow : {n : ℕ} → n < length table → n < mostRows
-    narrow l = omega (arith, good .small)
+    narrow l = omega (arith, good .right .small)
 
     low : k < mostDesks
     low = omega (arith, good .few-desks)

@@ -1,6 +1,6 @@
 -- What is known once no refusal applies: of an accepted begin, and of an accepted call. Assumes nothing.
 use Prim.Native.Nat.{ℕ, zero, _+_, _≤_, _<_}
-use mathlib.Core.Path.{_≡_, refl, sym, _∙_}
+use mathlib.Core.Path.{_≡_, refl, sym, ap, _∙_}
 use mathlib.Core.Logic.{_≢_, _⊎_, inl, inr}
 use mathlib.Core.Bool.{Bool, true, false, not, _&&_, false≢true, _||_}
 use mathlib.Core.List.{List, [], _∷_}
@@ -8,11 +8,8 @@ use native.Mathlib.Omega.{arith}
 use lib.Dec.{eqb, leb, ltb}
 use lib.ListN.{length}
 use borrow.Author.Tests.{ltb-false, leb-false, eqb-false, not-false, le-ltb, ne-eqb}
-use Rattle.sets.specs.Limits.{mostDesks, mostHeld, mostPlaces, mostRows, mostValues, promised}
-use Rattle.sets.specs.declared.Found.{Found}
-use Rattle.sets.specs.declared.Found.the-variants.{At, Nothing}
+use Rattle.sets.specs.Limits.{mostDesks, mostHeld, mostPlaces, mostRows, promised}
 use Rattle.sets.specs.Sets.{within}
-use Rattle.sets.specs.Tables.{badRow}
 use Rattle.sets.proofs.Bools.{true-or-false}
 use Rattle.sheet.specs.declared.Sheet.{Sheet}
 use Rattle.sheet.specs.Sheets.{own, held, owed, sound}
@@ -23,15 +20,17 @@ use Rattle.store.specs.declared.Call.{Call}
 use Rattle.store.specs.declared.Call.the-variants.{Do, Ask}
 use Rattle.store.specs.declared.Change.the-variants.{Delete, Insert, Reset}
 use Rattle.refusals.specs.declared.Refusal.{Refusal}
-use Rattle.refusals.specs.declared.Refusal.the-variants.{TooLarge, NoRow, HiddenAlready, BadSet, Full, NoRoom, BadDesks}
+use Rattle.refusals.specs.declared.Refusal.the-variants.{NoRow, HiddenAlready, BadSet, Full, NoRoom}
 use Rattle.store.specs.declared.Answer.{Answer}
 use Rattle.store.specs.declared.Answer.the-variants.{Done, Refused}
 use Rattle.refusals.specs.Refusals.{number}
 use Rattle.refusals.specs.Cases.{Case, _gives_, decided}
 use Rattle.store.specs.Answers.{accepted, numberOf}
 use Rattle.store.specs.Desks.{serve}
-use Rattle.refusals.specs.TableCases.{badCase, tableCases}
-use Rattle.store.specs.Calls.{begunAnswer, crowded}
+use Rattle.refusals.specs.TableCases.{tableCases}
+use Rattle.refusals.proofs.Outcomes.{NoneApplies, outcome, stands, refuses}
+use Rattle.refusals.proofs.TablesJudged.{TableRight, right-parts, parts-right, or-no}
+use Rattle.store.specs.Calls.{beginCases, begunAnswer, crowded}
 
 -- where the answer accepts, the first case does not apply
 pub passed : (b : Bool) (r : Refusal) (cs : List Case) (a : Answer) → accepted (decided Refused ((b gives r) ∷ cs) a) ≡ true → (b ≡ false) × (accepted (decided Refused cs a) ≡ true)
@@ -60,54 +59,36 @@ unfolding decided
 applied x true r a ne e = refl
 applied x false r a ne e = absurd (ne e)
 
-pub or-no : (a b : Bool) → (a || b) ≡ false → (a ≡ false) × (b ≡ false)
-or-no false b e = (refl, e)
-or-no true b e = absurd (false≢true (sym e))
+-- where the answer accepts, no case applies
+pub none-apply : (cs : List Case) (a : Answer) → accepted (decided Refused cs a) ≡ true → NoneApplies cs
+unfolding accepted
+none-apply cs a t = elim (outcome cs) [
+  | inl none ↦ none
+  | inr (r, g) ↦ absurd (false≢true (ap accepted (sym (refuses Refused cs r g a)) ∙ t))
+]
 
 -- ---- begin
 
 pub record Good (d : ℕ) (table : List ℕ) (desks : ℕ) : Type 0 where
-  pub some-value : 1 ≤ d
-  pub values : d ≤ mostValues
-  pub small : length table ≤ mostRows
-  pub right : badRow d table ≡ Nothing
+  pub right : TableRight mostRows d table
   pub some-desk : 1 ≤ desks
   pub few-desks : desks ≤ mostDesks
-
-pub none-bad : (f : Found) → badCase f .applies ≡ false → f ≡ Nothing
-none-bad Nothing e = refl
-none-bad (At i) e = absurd (false≢true (sym e))
 
 pub good-parts : (d : ℕ) (table : List ℕ) (desks : ℕ) → accepted (begunAnswer d table desks) ≡ true → Good d table desks
 unfolding begunAnswer tableCases
 good-parts d table desks t =
-    let large = passed (eqb d zero || ltb mostValues d || ltb mostRows (length table)) TooLarge _ Done t in
-    let bad = passed (badCase (badRow d table) .applies) (badCase (badRow d table) .refusal) _ Done (large .1) in
-    let number = or-no (eqb desks zero) (ltb mostDesks desks) (passed (eqb desks zero || ltb mostDesks desks) BadDesks [] Done (bad .1) .0) in
-    let rows = or-no (eqb d zero || ltb mostValues d) (ltb mostRows (length table)) (large .0) in
-    let values = or-no (eqb d zero) (ltb mostValues d) (rows .0) in
-    let d-not : d ≡ zero → ⊥ = eqb-false d zero (values .0) in
+    let none = none-apply (beginCases d table desks) Done t in
+    let number = or-no (eqb desks zero) (ltb mostDesks desks) (none .1 .1 .0) in
     let desks-not : desks ≡ zero → ⊥ = eqb-false desks zero (number .0) in
-    record {
-      some-value = omega arith;
-      values = ltb-false mostValues d (values .1);
-      small = ltb-false mostRows (length table) (rows .1);
-      right = none-bad (badRow d table) (bad .0);
-      some-desk = omega arith;
-      few-desks = ltb-false mostDesks desks (number .1);
-    }
+    record { right = right-parts mostRows d table (none .0, (none .1 .0, tt)); some-desk = omega arith; few-desks = ltb-false mostDesks desks (number .1) }
 
 pub parts-good : {d : ℕ} {table : List ℕ} {desks : ℕ} → Good d table desks → accepted (begunAnswer d table desks) ≡ true
-unfolding begunAnswer tableCases decided accepted
+unfolding begunAnswer tableCases accepted
 parts-good {d} {table} {desks} g =
-    rw (
-      ne-eqb d zero (λ e. absurd (omega (arith, g .some-value))),
-      le-ltb mostValues d (g .values),
-      le-ltb mostRows (length table) (g .small),
-      g .right,
-      ne-eqb desks zero (λ e. absurd (omega (arith, g .some-desk))),
-      le-ltb mostDesks desks (g .few-desks),
-    )
+    let none = parts-right mostRows d table (g .right) in
+    let there : (eqb desks zero || ltb mostDesks desks) ≡ false
+    = rw (ne-eqb desks zero (λ e. absurd (omega (arith, g .some-desk))), le-ltb mostDesks desks (g .few-desks)) refl in
+    ap accepted (stands Refused (beginCases d table desks) (none .0, (none .1 .0, (there, tt))) Done)
 
 -- ---- a call
 

@@ -62,7 +62,7 @@ module _ {d : ℕ} {table : List ℕ} {desks : ℕ} {tell : Store} (begun : acce
         let owed = sum-part (λ j. promised - heldBy tell j past) desks 8 (omega arith) in
         let told = keeps .as-alone past (asking k) (λ e. omega (arith, wrong past (asking k) e, owed-is-kept begun keeps past)) in
         ap (λ (a : Told). accepted (a .answer)) told
-        ∙ rw (lt-leb desks k (omega arith), within-one d (good-parts d table desks begun .some-value), lt-leb mostHeld (heldBy tell k past) room, and-false (leb 8 (heldBy tell k past)))
+        ∙ rw (lt-leb desks k (omega arith), within-one d (good-parts d table desks begun .right .some-value), lt-leb mostHeld (heldBy tell k past) room, and-false (leb 8 (heldBy tell k past)))
 
     gets : (k n : ℕ) → k < 8 → (past : List Turn) → heldBy tell 8 past ≡ zero → heldBy tell k past + n ≤ mostHeld → heldBy tell k (asked k n past) ≡ heldBy tell k past + n
     unfolding asked ownIn

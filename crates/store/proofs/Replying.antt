@@ -25,7 +25,7 @@ use Rattle.store.specs.declared.Change.the-variants.{Delete, Insert, Res
 use Rattle.refusals.specs.declared.Refusal.the-variants.{Unsound, OtherTable, NoDesk, BadDesks}
 use Rattle.store.specs.declared.Answer.{Answer}
 use Rattle.store.specs.declared.Reply.{Reply}
-use Rattle.store.specs.declared.Answer.the-variants.{Done, Seen, Counted, Listed, Refused}
+use Rattle.store.specs.declared.Answer.the-variants.{Done, Refused}
 use Rattle.refusals.specs.Cases.{Case, _gives_, decided}
 use Rattle.store.specs.Answers.{accepted}
 use Rattle.store.specs.Desks.{serve, written, listAfter}

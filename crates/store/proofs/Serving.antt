@@ -1,6 +1,6 @@
 -- From what each part of a desk's call answers to what the desk is told. Assumes nothing.
 use Prim.Native.Nat.{ℕ, _+_, _-_}
-use mathlib.Core.Path.{_≡_, refl, sym, ap, _∙_}
+use mathlib.Core.Path.{_≡_, refl, sym}
 use mathlib.Core.Bool.{Bool, true, false, cond}
 use mathlib.Core.List.{List, []}
 use lib.Dec.{eqb}
@@ -11,11 +11,11 @@ use Rattle.refusals.specs.Cases.{decided}
 use Rattle.sheet.specs.declared.Sheet.{Sheet}
 use Rattle.sheet.specs.Upto.{sumTo}
 use Rattle.sheet.specs.Sheets.{own, hides}
-use Rattle.store.specs.declared.Target.the-variants.{Table, Own}
+use Rattle.store.specs.declared.Target.the-variants.{Own}
 use Rattle.store.specs.declared.Call.{Call}
 use Rattle.store.specs.declared.Call.the-variants.{Do, Ask}
 use Rattle.store.specs.declared.Change.{Change}
-use Rattle.store.specs.declared.Change.the-variants.{Delete, Insert, Reset}
+use Rattle.store.specs.declared.Change.the-variants.{Delete, Insert}
 use Rattle.store.specs.declared.Question.{Question}
 use Rattle.store.specs.declared.Answer.{Answer}
 use Rattle.store.specs.declared.Answer.the-variants.{Done, Refused}

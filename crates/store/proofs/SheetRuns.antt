@@ -6,8 +6,8 @@ use mathlib.Core.List.{List, [], _∷_}
 use native.Mathlib.Omega.{arith}
 use lib.Dec.{leb}
 use lib.ListN.{length}
-use borrow.Author.Tests.{le-ltb, leb-false, eq-eqb, ne-eqb}
-use Rattle.sets.specs.Limits.{mostPlaces, mostRows, mostValues}
+use borrow.Author.Tests.{leb-false, eq-eqb}
+use Rattle.sets.specs.Limits.{mostPlaces, mostRows}
 use Rattle.sheet.specs.declared.Sheet.{Sheet}
 use Rattle.sheet.specs.Sheets.{own, hides, Whole, sound}
 use Rattle.sheet.specs.Changes.{freshSheet}
@@ -24,7 +24,9 @@ use Rattle.store.specs.declared.Answer.the-variants.{Refused}
 use Rattle.refusals.specs.Cases.{_gives_, decided}
 use Rattle.store.specs.Answers.{accepted}
 use Rattle.store.specs.Desks.{serve}
-use Rattle.refusals.specs.TableCases.{badCase, tableCases}
+use Rattle.refusals.specs.TableCases.{tableCases}
+use Rattle.refusals.proofs.Outcomes.{stands-first}
+use Rattle.refusals.proofs.TablesJudged.{parts-right}
 use Rattle.store.specs.Calls.{sheetCases, begunAnswer, begunSheet, crowded, answered, changed, sheetAfter}
 use Rattle.store.specs.Promise.{Turn, sheetOn}
 use Rattle.store.proofs.Judging.{Good, good-parts, parts-good, passed, Allowed, allowed, has-room}
@@ -50,7 +52,7 @@ module _ {d : ℕ} {table : List ℕ} {desks : ℕ} (good : Good d table desks) 
       rw (parts-good good)
       record {
         whole = whole-fresh d (length table) desks;
-        stays-sound = sound-fresh d (length table) desks (good .some-value) (good .values) (good .small) (good .some-desk) (good .few-desks);
+        stays-sound = sound-fresh d (length table) desks (good .right .some-value) (good .right .values) (good .right .small) (good .some-desk) (good .few-desks);
         same-d = refl;
         same-rows = refl;
         same-desks = refl;
@@ -61,18 +63,10 @@ module _ {d : ℕ} {table : List ℕ} {desks : ℕ} (good : Good d table desks) 
   -- of refusals 1 to 5, 5 alone is left
   pub answered-here : {s : Sheet} → Reached d table desks s → (k : ℕ) (c : Call) (places : ℕ) → answered d table s k c places
       ≡ decided Refused ((leb desks k gives NoDesk) ∷ []) (serve d table (crowded s) places (hides (s .marks) k) (own s k) c)
-  unfolding answered tableCases sheetCases decided
+  unfolding answered sheetCases decided
   answered-here {s} r k c places =
-      rw (
-        ne-eqb d zero (λ e. absurd (omega (arith, good .some-value))),
-        le-ltb mostValues d (good .values),
-        le-ltb mostRows (length table) (good .small),
-        good .right,
-        r .stays-sound,
-        eq-eqb (s .d) d (r .same-d),
-        eq-eqb (s .rows) (length table) (r .same-rows),
-        r .same-desks,
-      )
+      stands-first Refused (tableCases mostRows d table) (sheetCases d table s k) (parts-right mostRows d table (good .right)) _
+      ∙ rw (r .stays-sound, eq-eqb (s .d) d (r .same-d), eq-eqb (s .rows) (length table) (r .same-rows), r .same-desks) refl
 
   -- what an accepted call has
   pub call-has : {s : Sheet} → Reached d table desks s → (k : ℕ) (c : Call) (places : ℕ) → accepted (answered d table s k c places) ≡ true

@@ -1,15 +1,11 @@
 -- What follows once table, sheet and desk are right. Assumes nothing.
-use Prim.Native.Nat.{ℕ, zero, _+_, _-_, _≤_, _<_}
+use Prim.Native.Nat.{ℕ, _+_, _-_, _≤_, _<_}
 use mathlib.Core.Path.{_≡_, sym, ap, _∙_}
-use mathlib.Core.Bool.{_||_}
-use mathlib.Core.List.{List, [], _∷_}
+use mathlib.Core.List.{List}
 use native.Mathlib.Omega.{arith}
-use lib.Dec.{eqb, ltb}
 use lib.ListN.{length}
-use borrow.Author.Tests.{ltb-false}
 use Rattle.sets.specs.Limits.{mostDesks, mostHeld, mostPlaces, mostRows, mostValues, promised}
 use Rattle.theory.specs.Pairings.{at}
-use Rattle.sets.specs.Tables.{badRow}
 use Rattle.sets.proofs.BadRows.{bad-row-none}
 use Rattle.distinct.specs.Steps.{InColumn}
 use Rattle.sheet.specs.declared.Sheet.{Sheet}
@@ -18,12 +14,12 @@ use Rattle.sheet.specs.Sheets.{own, owns, held, hides, owed}
 use Rattle.sheet.proofs.UptoLaws.{sum-ext}
 use Rattle.sheet.proofs.OwnAfter.{length-own}
 use Rattle.sheet.proofs.SoundParts.{sound-parts}
-use Rattle.refusals.specs.declared.Refusal.the-variants.{TooLarge}
 use Rattle.store.specs.declared.Answer.the-variants.{Done}
 use Rattle.store.specs.Desks.{view}
-use Rattle.refusals.specs.TableCases.{badCase, tableCases}
+use Rattle.refusals.specs.TableCases.{tableCases}
+use Rattle.refusals.proofs.TablesJudged.{TableRight, right-parts}
 use Rattle.store.specs.Serving.{Trusted}
-use Rattle.store.proofs.Judging.{passed, or-no, none-bad}
+use Rattle.store.proofs.Judging.{none-apply}
 use Rattle.store.proofs.ViewRows.{within-those, within-view}
 
 -- the limits that the code leans on
@@ -39,20 +35,19 @@ pub record Limits (d : ℕ) (table : List ℕ) (s : Sheet) (counts : List ℕ) (
   pub owes : sumTo (λ j. promised - at counts j) (s .desks) ≡ owed s
 
 module _ (d : ℕ) (table : List ℕ) (s : Sheet) (counts : List ℕ) (k : ℕ) (T : Trusted d table s counts k) where
+  right : TableRight mostRows d table
+  right = right-parts mostRows d table (none-apply (tableCases mostRows d table) Done (T .table-right))
+
   pub limits : Limits d table s counts k
-  unfolding tableCases
   limits =
       let S = sound-parts s (T .sheet-right) in
       let there = T .desk-there in
-      let large = passed (eqb d zero || ltb mostValues d || ltb mostRows (length table)) TooLarge (badCase (badRow d table) ∷ []) Done (T .table-right) .0 in
-      let rows = or-no (eqb d zero || ltb mostValues d) (ltb mostRows (length table)) large in
-      let values = or-no (eqb d zero) (ltb mostValues d) (rows .0) in
       let few = S .few-desks in
       record {
         desk = omega arith;
         desks = few;
-        table-rows = ltb-false mostRows (length table) (rows .1);
-        values = ltb-false mostValues d (values .1);
+        table-rows = right .small;
+        values = right .values;
         used = S .places;
         promise = S .promise;
         share = S .share k there;
@@ -62,15 +57,11 @@ module _ (d : ℕ) (table : List ℕ) (s : Sheet) (counts : List ℕ) (k : ℕ) 
 
   -- every row of the desk's view is one of the column
   pub in-column : s .d ≡ d → InColumn d (view table (hides (s .marks) k) (own s k))
-  unfolding tableCases
   in-column same =
       let S = sound-parts s (T .sheet-right) in
-      let large = passed (eqb d zero || ltb mostValues d || ltb mostRows (length table)) TooLarge (badCase (badRow d table) ∷ []) Done (T .table-right) in
-      let bad = passed (badCase (badRow d table) .applies) (badCase (badRow d table) .refusal) [] Done (large .1) .0 in
       record {
-        column = limits .values;
+        column = right .values;
         rows-within =
-            within-view d table (hides (s .marks) k) (own s k)
-            (bad-row-none d table (none-bad (badRow d table) bad))
+            within-view d table (hides (s .marks) k) (own s k) (bad-row-none d table (right .none-bad))
             (rw (sym same) (within-those (s .d) (owns (s .owners) k) (s .sets) (s .used) (S .row)));
       }

@@ -33,9 +33,10 @@ use Rattle.refusals.specs.Cases.{Case, _gives_, decided}
 use Rattle.store.specs.Answers.{numberOf}
 use Rattle.store.specs.Desks.{view, serve}
 use Rattle.refusals.specs.TableCases.{badCase, tableCases}
+use Rattle.refusals.proofs.TablesJudged.{or-no}
 use Rattle.store.specs.Calls.{sheetCases, crowded, answered}
 use Rattle.store.specs.Promise.{Turn, classStore, sheetOn}
-use Rattle.store.proofs.Judging.{or-no, skipped, applied}
+use Rattle.store.proofs.Judging.{skipped, applied}
 
 view-most : (table : List ℕ) (hid : ℕ → Bool) (own : List ℕ) → length (view table hid own) ≤ length table + length own
 unfolding view

@@ -108,7 +108,7 @@ module _ {d : ℕ} {table : List ℕ} {desks : ℕ} {tell : Store} (begun : acce
   no-store-always-refuses refuses =
       let good = good-parts d table desks begun in
       let t = turn zero (Do (Insert 1)) [] in
-      not-both (keeps .next [] t (and-both (ltb zero desks) (within d 1) (lt-ltb zero desks (good .some-desk)) (within-one d (good .some-value))) (omega arith)) (refuses [] t)
+      not-both (keeps .next [] t (and-both (ltb zero desks) (within d 1) (lt-ltb zero desks (good .some-desk)) (within-one d (good .right .some-value))) (omega arith)) (refuses [] t)
 
   -- ---- a made-up count: the rows in the view, and its inserts less its removals since the last reset
 

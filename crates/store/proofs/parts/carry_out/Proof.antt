@@ -1,5 +1,5 @@
 -- `carry_out` meets its contract: the answer, and the change where one is accepted. Assumes nothing.
-use mathlib.Core.Path.{_≡_, sym, ap, _∙_}
+use mathlib.Core.Path.{_≡_, sym, _∙_}
 use mathlib.Core.Bool.{true}
 use borrow.Author.Tests.{not-true, not-false}
 use borrow.Author.Needs.{needs}
