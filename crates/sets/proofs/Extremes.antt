@@ -57,13 +57,15 @@ lowest-least (suc k) n v h = elim (low-digit n) [
 rest-even : (n : ℕ) → n % 2 ≡ 0 → n ≢ zero → bitAnd n (n - 1) ≡ bitAnd (n / 2) (n / 2 - 1) * 2
 rest-even n e ne =
     and-step n (n - 1)
-    ∙ ap₂ (λ (x y : ℕ). bitAnd (n / 2) x * 2 + y) (let half : (n - 1) / 2 ≡ n / 2 - 1 = omega (arith, e, ne) in half) (let low : min (n % 2) ((n - 1) % 2) ≡ zero = omega (arith, e) in low)
+    ∙ ap₂ (λ (x y : ℕ). bitAnd (n / 2) x * 2 + y) (let half : (n - 1) / 2 ≡ n / 2 - 1 = omega (arith, e, ne) in half)
+    (let low : min (n % 2) ((n - 1) % 2) ≡ zero = omega (arith, e) in low)
     ∙ add-zero (bitAnd (n / 2) (n / 2 - 1) * 2)
 
 rest-odd : (n : ℕ) → n % 2 ≡ 1 → bitAnd n (n - 1) ≡ n / 2 * 2
 rest-odd n e =
     and-step n (n - 1)
-    ∙ ap₂ (λ (x y : ℕ). bitAnd (n / 2) x * 2 + y) (let half : (n - 1) / 2 ≡ n / 2 = omega (arith, e) in half) (let low : min (n % 2) ((n - 1) % 2) ≡ zero = omega (arith, e) in low)
+    ∙ ap₂ (λ (x y : ℕ). bitAnd (n / 2) x * 2 + y) (let half : (n - 1) / 2 ≡ n / 2 = omega (arith, e) in half)
+    (let low : min (n % 2) ((n - 1) % 2) ≡ zero = omega (arith, e) in low)
     ∙ add-zero (bitAnd (n / 2) (n / 2) * 2)
     ∙ ap (λ (x : ℕ). x * 2) (and-self (n / 2))
 

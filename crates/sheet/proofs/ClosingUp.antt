@@ -57,7 +57,8 @@ those-from f rows (suc n) i h = elim (true-or-false (f n)) [
 
 -- of the rows that pass f, those whose mark passes g are the rows that pass both
 module _ (f : ℕ → Bool) (g : ℕ → Bool) (marks rows : List ℕ) where
-  one-more : (K L : List ℕ) (o v c : ℕ) → length K ≡ c → length L ≡ c → those (λ i. g (at (K ++ (o ∷ [])) i)) (L ++ (v ∷ [])) (suc c) ≡ those (λ i. g (at K i)) L c ++ cond (g o) (v ∷ []) []
+  one-more : (K L : List ℕ) (o v c : ℕ) → length K ≡ c → length L ≡ c
+      → those (λ i. g (at (K ++ (o ∷ [])) i)) (L ++ (v ∷ [])) (suc c) ≡ those (λ i. g (at K i)) L c ++ cond (g o) (v ∷ []) []
   unfolding those
   one-more K L o v c a b =
       rw (
@@ -82,7 +83,8 @@ module _ (f : ℕ → Bool) (g : ℕ → Bool) (marks rows : List ℕ) where
 -- ---- all but those number a to b - 1
 
 module _ (K : List ℕ) (x a b c : ℕ) (e : length K ≡ c) (ab : a ≤ b) where
-  last-cut : (p q : Bool) → leb a c ≡ p → ltb c b ≡ q → (take a K ++ drop b K) ++ cond (not (p && q) && true) (x ∷ []) [] ≡ take a (K ++ (x ∷ [])) ++ drop b (K ++ (x ∷ []))
+  last-cut : (p q : Bool) → leb a c ≡ p → ltb c b ≡ q
+      → (take a K ++ drop b K) ++ cond (not (p && q) && true) (x ∷ []) [] ≡ take a (K ++ (x ∷ [])) ++ drop b (K ++ (x ∷ []))
   last-cut false q u v =
       let h : c < a = leb-false a c u in
       let long : length (K ++ (x ∷ [])) ≡ suc c = simp length-append (omega arith) in
@@ -100,7 +102,8 @@ module _ (K : List ℕ) (x a b c : ℕ) (e : length K ≡ c) (ab : a ≤ b) wher
       rw (take-append-le a K (x ∷ []) (omega arith), drop-append-le b K (x ∷ []) (omega arith)) (append-assoc (take a K) (drop b K) (x ∷ []))
 
 module _ (g : ℕ → Bool) (rows : List ℕ) (a b : ℕ) (ab : a ≤ b) where
-  pub those-cut : (n : ℕ) → those (λ i. not (g i && (leb a (countTo g i) && ltb (countTo g i) b)) && g i) rows n ≡ take a (those g rows n) ++ drop b (those g rows n)
+  pub those-cut : (n : ℕ)
+      → those (λ i. not (g i && (leb a (countTo g i) && ltb (countTo g i) b)) && g i) rows n ≡ take a (those g rows n) ++ drop b (those g rows n)
   unfolding those
   those-cut zero = rw (take-nil, drop-nil)
   those-cut (suc n) = elim (true-or-false (g n)) [

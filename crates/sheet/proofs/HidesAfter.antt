@@ -76,14 +76,17 @@ pub at-unwiped : (marks : List ℕ) (first n i : ℕ) → (i < first) ⊎ (first
 unfolding wiped
 at-unwiped marks first zero i out = refl
 at-unwiped marks first (suc n) i (inl h) = at-other (wiped marks first n) (first + n) zero i (omega arith) ∙ at-unwiped marks first n i (inl h)
-at-unwiped marks first (suc n) i (inr h) = at-other (wiped marks first n) (first + n) zero i (omega arith) ∙ at-unwiped marks first n i (inr (omega arith))
+at-unwiped marks first (suc n) i (inr h) =
+    at-other (wiped marks first n) (first + n) zero i (omega arith) ∙ at-unwiped marks first n i (inr (omega arith))
 
 -- ---- a desk's marks are taken off
 
 module _ (marks : List ℕ) (k m : ℕ) (hm : m < mostRows) where
   pub wiped-same : hides (wiped marks (k * markWords) markWords) k m ≡ false
   unfolding hides
-  wiped-same = ap (λ (x : ℕ). has x (m % wordBits)) (at-wiped marks (k * markWords) markWords (word k m) (omega arith) (omega arith)) ∙ has-empty (m % wordBits)
+  wiped-same =
+      ap (λ (x : ℕ). has x (m % wordBits)) (at-wiped marks (k * markWords) markWords (word k m) (omega arith) (omega arith))
+      ∙ has-empty (m % wordBits)
 
   outside : (j : ℕ) → j ≢ k → (word j m < k * markWords) ⊎ (k * markWords + markWords ≤ word j m)
   outside j ne = elim (decLt j k) [ yes l ↦ inl (omega arith) | no l ↦ inr (omega arith) ]

@@ -29,7 +29,8 @@ module _ (desks rows w r : ℕ) where
       record { only = λ v h. absurd (not-both h (ap (λ (x : ℕ). has x v) z ∙ has-empty v)); all = λ v _ k l. absurd (no-row v k l) }
 
   -- the first n, up to T
-  pub may-first : (n : ℕ) → r ≡ 2 ^ n - 1 → w / markWords < desks → w % markWords * wordBits + n ≤ rows → ((v : ℕ) → v < wordBits → w % markWords * wordBits + v < rows → v < n) → MayHide desks rows w r
+  pub may-first : (n : ℕ) → r ≡ 2 ^ n - 1 → w / markWords < desks → w % markWords * wordBits + n ≤ rows
+      → ((v : ℕ) → v < wordBits → w % markWords * wordBits + v < rows → v < n) → MayHide desks rows w r
   may-first n e k l full =
       record {
         only = λ v h. let b : v < n = has-all n v (ap (λ (x : ℕ). has x v) (sym e) ∙ h) in (k, omega arith);
@@ -51,7 +52,8 @@ module _ (desks rows : ℕ) (marks : List ℕ) where
   marked-start = record { before = λ w h. absurd (omega arith) }
 
   -- a word with a row that it may not have
-  pub marked-wrong : (w r : ℕ) → w < allMarks → at marks w < 2 ^ wordBits → MayHide desks rows w r → subset (at marks w) r ≡ false → false ≡ markedRight (marksOf desks rows marks)
+  pub marked-wrong : (w r : ℕ) → w < allMarks → at marks w < 2 ^ wordBits → MayHide desks rows w r → subset (at marks w) r ≡ false
+      → false ≡ markedRight (marksOf desks rows marks)
   unfolding markedRight hides
   marked-wrong w r h small may e =
       sym (all-fails (λ k. allTo (allowed desks rows marks k) mostRows) mostDesks (w / markWords) (omega arith) (all-fails (allowed desks rows marks (w / markWords)) mostRows n (omega (arith, low)) (rw (hid, out) refl)))
@@ -95,10 +97,13 @@ module _ {desks rows : ℕ} {marks : List ℕ} {next : ℕ} (m : Marked desks ro
 
   pub marked-all : allMarks ≤ next → true ≡ markedRight (marksOf desks rows marks)
   unfolding markedRight hides
-  marked-all h = sym (all-intro (λ k. allTo (allowed desks rows marks k) mostRows) mostDesks (λ k kl. all-intro (allowed desks rows marks k) mostRows (λ n nl. one k kl n nl (true-or-false (hides marks k n)))))
+  marked-all h =
+      sym (all-intro (λ k. allTo (allowed desks rows marks k) mostRows) mostDesks (λ k kl. all-intro (allowed desks rows marks k) mostRows (λ n nl. one k kl n nl (true-or-false (hides marks k n)))))
     where
-      one : (k : ℕ) → k < mostDesks → (n : ℕ) → n < mostRows → (hides marks k n ≡ true) ⊎ (hides marks k n ≡ false) → allowed desks rows marks k n ≡ true
+      one : (k : ℕ) → k < mostDesks → (n : ℕ) → n < mostRows → (hides marks k n ≡ true) ⊎ (hides marks k n ≡ false)
+          → allowed desks rows marks k n ≡ true
       one k kl n nl (inr f) = or-left (not (hides marks k n)) (ltb k desks && ltb n rows) (ap not f)
       one k kl n nl (inl t) =
           let ok = m .before (k * markWords + n / wordBits) (omega arith) (n % wordBits) t in
-          or-right (not (hides marks k n)) (ltb k desks && ltb n rows) (and-both (ltb k desks) (ltb n rows) (lt-ltb k desks (omega (arith, ok .0))) (lt-ltb n rows (omega (arith, ok .1))))
+          or-right (not (hides marks k n)) (ltb k desks && ltb n rows)
+          (and-both (ltb k desks) (ltb n rows) (lt-ltb k desks (omega (arith, ok .0))) (lt-ltb n rows (omega (arith, ok .1))))

@@ -65,7 +65,8 @@ whole-adding {s} k row w =
 -- ---- rows are taken out
 
 -- 'a filter of a filter': the rows of a desk once the places that pass f are closed up
-pub own-closed : (f : ℕ → Bool) (owners sets : List ℕ) (n j : ℕ) → those (owns (padded (those f owners n)) j) (padded (those f sets n)) (countTo f n) ≡ those (λ i. f i && owns owners j i) sets n
+pub own-closed : (f : ℕ → Bool) (owners sets : List ℕ) (n j : ℕ)
+    → those (owns (padded (those f owners n)) j) (padded (those f sets n)) (countTo f n) ≡ those (λ i. f i && owns owners j i) sets n
 own-closed f owners sets n j =
     those-same (owns (padded (those f owners n)) j) (owns (those f owners n) j) (padded (those f sets n)) (those f sets n) (countTo f n)
     (λ i h. ap (λ (x : ℕ). eqb x j) (at-padded (those f owners n) i))
@@ -92,7 +93,8 @@ module _ (s : Sheet) (k from upto : ℕ) where
     where
       theirs : (i : ℕ) → (stays (s .owners) k from upto i && owns (s .owners) j i) ≡ owns (s .owners) j i
       theirs i =
-          not-this (owns (s .owners) k i) (leb from (countTo (owns (s .owners) k) i) && ltb (countTo (owns (s .owners) k) i) upto) (owns (s .owners) j i)
+          not-this (owns (s .owners) k i) (leb from (countTo (owns (s .owners) k) i) && ltb (countTo (owns (s .owners) k) i) upto)
+          (owns (s .owners) j i)
           (λ p q. ne (sym (eqb-true (at (s .owners) i) j q) ∙ eqb-true (at (s .owners) i) k p))
 
   pub held-without-same : from ≤ upto → held (without s k from upto) k ≡ length (take from (own s k)) + length (drop upto (own s k))

@@ -29,9 +29,11 @@ use Rattle.sheet.proofs.SoundParts.{Sound, sound-parts, parts-sound, us
 pub whole-fresh : (d rows desks : ℕ) → Whole (freshSheet d rows desks)
 unfolding freshSheet
 whole-fresh d rows desks =
-    record { marks-long = length-replicate allMarks zero; sets-long = length-replicate mostPlaces zero; owners-long = length-replicate mostPlaces zero }
+    record
+    { marks-long = length-replicate allMarks zero; sets-long = length-replicate mostPlaces zero; owners-long = length-replicate mostPlaces zero }
 
-pub sound-fresh : (d rows desks : ℕ) → 1 ≤ d → d ≤ mostValues → rows ≤ mostRows → 1 ≤ desks → desks ≤ mostDesks → sound (freshSheet d rows desks) ≡ true
+pub sound-fresh : (d rows desks : ℕ) → 1 ≤ d → d ≤ mostValues → rows ≤ mostRows → 1 ≤ desks → desks ≤ mostDesks
+    → sound (freshSheet d rows desks) ≡ true
 unfolding freshSheet countTo hides
 sound-fresh d rows desks a b c e f =
     parts-sound (freshSheet d rows desks)
@@ -57,7 +59,8 @@ zeros-unsound = refl
 
 -- ---- other marks
 
-pub sound-marking : {s : Sheet} (marks : List ℕ) → Sound s → ((k n : ℕ) → k < mostDesks → n < mostRows → hides marks k n ≡ true → (k < s .desks) × (n < s .rows)) → Sound (marking s marks)
+pub sound-marking : {s : Sheet} (marks : List ℕ) → Sound s
+    → ((k n : ℕ) → k < mostDesks → n < mostRows → hides marks k n ≡ true → (k < s .desks) × (n < s .rows)) → Sound (marking s marks)
 sound-marking marks p right =
     record {
       some-value = p .some-value;
@@ -133,7 +136,8 @@ module _ {s : Sheet} (k row : ℕ) (w : Whole s) (p : Sound s) (hk : k < s .desk
       let others = sum-but-one (λ j. promised - held (adding s k row) j) (λ j. promised - held s j) (s .desks) k hk (λ j l ne. ap (λ (x : ℕ). promised - x) (held-adding-other k row w h j ne)) in
       elim c [ inl few ↦ omega (arith, p .promise) | inr free ↦ omega arith ]
 
-pub sound-adding : {s : Sheet} (k row : ℕ) → Whole s → sound s ≡ true → k < s .desks → within (s .d) row ≡ true → held s k < mostHeld → (held s k < promised) ⊎ (s .used + owed s < mostPlaces) → sound (adding s k row) ≡ true
+pub sound-adding : {s : Sheet} (k row : ℕ) → Whole s → sound s ≡ true → k < s .desks → within (s .d) row ≡ true → held s k < mostHeld
+    → (held s k < promised) ⊎ (s .used + owed s < mostPlaces) → sound (adding s k row) ≡ true
 sound-adding {s} k row w ok hk hr hh c =
     let p = sound-parts s ok in
     let h = room s k ok hk c in

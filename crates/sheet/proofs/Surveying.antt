@@ -44,7 +44,9 @@ module _ {used : ℕ} {sets owners : List ℕ} {next : ℕ} (s : Spare used sets
   spare-more o e = record { from = omega (arith, s .from); before = before }
     where
       here : spare used sets owners next ≡ true
-      here = or-right (ltb next used) (eqb (at owners next) zero && eqb (at sets next) zero) (and-both (eqb (at owners next) zero) (eqb (at sets next) zero) (eq-eqb (at owners next) zero o) (eq-eqb (at sets next) zero e))
+      here =
+          or-right (ltb next used) (eqb (at owners next) zero && eqb (at sets next) zero)
+          (and-both (eqb (at owners next) zero) (eqb (at sets next) zero) (eq-eqb (at owners next) zero o) (eq-eqb (at sets next) zero e))
 
       before : (i : ℕ) → i < suc next → spare used sets owners i ≡ true
       before i h = elim (top-or-below next i h) [
@@ -56,7 +58,8 @@ module _ {used : ℕ} {sets owners : List ℕ} {next : ℕ} (s : Spare used sets
   spare-owner ne h = sym (all-fails (spare used sets owners) mostPlaces next h (rw (unused, ne-eqb (at owners next) zero ne) refl))
 
   pub spare-set : at owners next ≡ zero → at sets next ≢ zero → next < mostPlaces → false ≡ allTo (spare used sets owners) mostPlaces
-  spare-set o ne h = sym (all-fails (spare used sets owners) mostPlaces next h (rw (unused, eq-eqb (at owners next) zero o, ne-eqb (at sets next) zero ne) refl))
+  spare-set o ne h =
+      sym (all-fails (spare used sets owners) mostPlaces next h (rw (unused, eq-eqb (at owners next) zero o, ne-eqb (at sets next) zero ne) refl))
 
   pub spare-all : mostPlaces ≤ next → true ≡ allTo (spare used sets owners) mostPlaces
   spare-all h = sym (all-intro (spare used sets owners) mostPlaces (λ i l. s .before i (omega arith)))
@@ -107,7 +110,8 @@ module _ {s : Sheet} {counts : List ℕ} {next : ℕ} (t : Tallied s counts next
   pub tally-more : next < s .used → at (s .owners) next < s .desks → s .desks ≤ mostDesks → within (s .d) (at (s .sets) next) ≡ true
       → Tallied s (set counts (at (s .owners) next) (suc (at counts (at (s .owners) next)))) (suc next)
   tally-more u h w e =
-      record { upto = u; before = before; long = length-set counts o (suc (at counts o)) ∙ t .long; counted = λ k l. elim (ℕ-discrete k o) [ yes q ↦ same k l q | no ne ↦ other k l ne ] }
+      record
+      { upto = u; before = before; long = length-set counts o (suc (at counts o)) ∙ t .long; counted = λ k l. elim (ℕ-discrete k o) [ yes q ↦ same k l q | no ne ↦ other k l ne ] }
     where
       o : ℕ
       o = at (s .owners) next
@@ -132,7 +136,8 @@ module _ {s : Sheet} {counts : List ℕ} {next : ℕ} (t : Tallied s counts next
   tally-all h right e =
       let all : next ≡ s .used = omega (arith, t .upto) in
       record {
-        right-is = e ∙ sym (ap (λ (b : Bool). b && allTo (spare (s .used) (s .sets) (s .owners)) mostPlaces) (all-intro (owned s) (s .used) (λ i l. t .before i (omega arith))));
+        right-is = e
+            ∙ sym (ap (λ (b : Bool). b && allTo (spare (s .used) (s .sets) (s .owners)) mostPlaces) (all-intro (owned s) (s .used) (λ i l. t .before i (omega arith))));
         counted = λ _ k l. t .counted k l ∙ ap (countTo (owns (s .owners) k)) all;
         long = t .long;
       }

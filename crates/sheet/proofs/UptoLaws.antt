@@ -49,7 +49,8 @@ sum-ext f g zero p = refl
 sum-ext f g (suc n) p = rw (sum-ext f g n (λ i h. p i (omega arith)), p n (omega arith))
 
 -- the rows as well
-pub those-same : (f g : ℕ → Bool) (l m : List ℕ) (n : ℕ) → ((i : ℕ) → i < n → f i ≡ g i) → ((i : ℕ) → i < n → at l i ≡ at m i) → those f l n ≡ those g m n
+pub those-same : (f g : ℕ → Bool) (l m : List ℕ) (n : ℕ) → ((i : ℕ) → i < n → f i ≡ g i) → ((i : ℕ) → i < n → at l i ≡ at m i)
+    → those f l n ≡ those g m n
 unfolding those
 those-same f g l m zero p q = refl
 those-same f g l m (suc n) p q =

@@ -30,7 +30,8 @@ unfolding mine history
 none-of-others tell j k ne [] = refl
 none-of-others tell j k ne (t ∷ past) = go (eqb (t .desk) k) refl (accepted (tell past t .answer)) (none-of-others tell j k ne past)
   where
-    go : (b : Bool) → eqb (t .desk) k ≡ b → (a : Bool) → history tell j (mine tell k past) ≡ [] → history tell j (cond (b && a) (t ∷ mine tell k past) (mine tell k past)) ≡ []
+    go : (b : Bool) → eqb (t .desk) k ≡ b → (a : Bool) → history tell j (mine tell k past) ≡ []
+        → history tell j (cond (b && a) (t ∷ mine tell k past) (mine tell k past)) ≡ []
     go true e true ih = rw (ne-eqb (t .desk) j (λ q. ne (sym q ∙ eqb-true (t .desk) k e))) ih
     go true e false ih = ih
     go false e a ih = ih
@@ -60,8 +61,10 @@ module _ {d : ℕ} {table : List ℕ} {desks : ℕ} {tell : Store} (keeps : Dema
     same-history k [] = refl
     same-history k (t ∷ past) = go (eqb (t .desk) k) refl (accepted (tell past t .answer)) refl (same-history k past)
       where
-        go : (b : Bool) → eqb (t .desk) k ≡ b → (a : Bool) → accepted (tell past t .answer) ≡ a → history tell k (mine tell k past) ≡ history tell k past
-            → history tell k (cond (b && a) (t ∷ mine tell k past) (mine tell k past)) ≡ cond (b && a) (t .call ∷ history tell k past) (history tell k past)
+        go : (b : Bool) → eqb (t .desk) k ≡ b → (a : Bool) → accepted (tell past t .answer) ≡ a
+            → history tell k (mine tell k past) ≡ history tell k past
+            → history tell k (cond (b && a) (t ∷ mine tell k past) (mine tell k past)) ≡ cond (b && a) (t .call ∷ history tell k past)
+            (history tell k past)
         go true e true q ih =
             let me : t .desk ≡ k = eqb-true (t .desk) k e in
             let like : history tell (t .desk) past ≡ history tell (t .desk) (mine tell k past) = rw me (sym ih) in
@@ -74,6 +77,7 @@ module _ {d : ℕ} {table : List ℕ} {desks : ℕ} {tell : Store} (keeps : Dema
     as-if-alone past t ne = isolated past (mine tell (t .desk) past) t (sym (same-history (t .desk) past)) ne (alone-has-room past t (t .desk) refl)
 
 -- our store, then, tells a desk what it would tell it in a class where nobody else had called and none of its own calls was refused
-pub class-as-if-alone : (d : ℕ) (table : List ℕ) (desks : ℕ) → accepted (begunAnswer d table desks) ≡ true → let tell : Store = classStore d table desks in
+pub class-as-if-alone : (d : ℕ) (table : List ℕ) (desks : ℕ) → accepted (begunAnswer d table desks) ≡ true
+    → let tell : Store = classStore d table desks in
     (past : List Turn) (t : Turn) → numberOf (tell past t .answer) ≢ 10 → tell past t ≡ tell (mine tell (t .desk) past) t
 class-as-if-alone d table desks begun = as-if-alone (class-keeps d table desks begun) (good-parts d table desks begun .few-desks)

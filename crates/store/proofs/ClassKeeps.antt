@@ -99,7 +99,8 @@ module _ {d : ℕ} {table : List ℕ} {desks : ℕ} (good : Good d table desks) 
         let q = desk-there (g .0) in
         let rows = ap length (agrees good past (t .desk) (q .0) .rows) in
         ap numberOf (told-served (q .0))
-        ∙ ten-serve d table (crowded s) (length (t .list)) (hides (s .marks) (t .desk)) (own s (t .desk)) (t .call) (q .1) (omega (arith, g .1)) (omega (arith, g .2))
+        ∙ ten-serve d table (crowded s) (length (t .list)) (hides (s .marks) (t .desk)) (own s (t .desk)) (t .call) (q .1) (omega (arith, g .1))
+        (omega (arith, g .2))
         (eq-eqb (s .used + owed s) mostPlaces (omega (arith, used-is good past, owed-is good past, g .3)))
 
     abbrev h : List Call
@@ -115,8 +116,10 @@ module _ {d : ℕ} {table : List ℕ} {desks : ℕ} (good : Good d table desks) 
       where
         go : (b : Bool) → leb desks (t .desk) ≡ b → tell past t ≡ alone d table desks h t
         go true e =
-            ap (telling d table (hides (s .marks) (t .desk)) (own s (t .desk)) (t .call) (t .list)) (told-here ∙ given (leb desks (t .desk)) NoDesk served e)
-            ∙ sym (ap (telling d table (member (hiddenIn h)) (ownIn h) (t .call) (t .list)) (given (leb desks (t .desk)) NoDesk (mine (member (hiddenIn h)) (ownIn h)) e))
+            ap (telling d table (hides (s .marks) (t .desk)) (own s (t .desk)) (t .call) (t .list))
+            (told-here ∙ given (leb desks (t .desk)) NoDesk served e)
+            ∙ sym
+            (ap (telling d table (member (hiddenIn h)) (ownIn h) (t .call) (t .list)) (given (leb desks (t .desk)) NoDesk (mine (member (hiddenIn h)) (ownIn h)) e))
         go false e =
             let there = leb-false desks (t .desk) e in
             let g = agrees good past (t .desk) there in
@@ -125,15 +128,20 @@ module _ {d : ℕ} {table : List ℕ} {desks : ℕ} (good : Good d table desks) 
             ap (telling d table hid (own s (t .desk)) (t .call) (t .list))
             (told-served there ∙ serve-but-ten d table (crowded s) (length (t .list)) hid (own s (t .desk)) (t .call) (λ q. ne (ap numberOf (told-served there) ∙ q)))
             ∙ ap (λ (o : List ℕ). telling d table hid o (t .call) (t .list) (mine hid o)) (g .rows)
-            ∙ ap (telling d table hid (ownIn h) (t .call) (t .list)) (serve-same table hid (member (hiddenIn h)) (ownIn h) same d false (length (t .list)) (t .call))
+            ∙ ap (telling d table hid (ownIn h) (t .call) (t .list))
+            (serve-same table hid (member (hiddenIn h)) (ownIn h) same d false (length (t .list)) (t .call))
             ∙ telling-same table hid (member (hiddenIn h)) (ownIn h) same d (t .call) (t .list) (mine (member (hiddenIn h)) (ownIn h))
-            ∙ sym (ap (telling d table (member (hiddenIn h)) (ownIn h) (t .call) (t .list)) (not-given (leb desks (t .desk)) NoDesk (mine (member (hiddenIn h)) (ownIn h)) e))
+            ∙ sym
+            (ap (telling d table (member (hiddenIn h)) (ownIn h) (t .call) (t .list)) (not-given (leb desks (t .desk)) NoDesk (mine (member (hiddenIn h)) (ownIn h)) e))
 
     ten-writes-nothing : numberOf (tell past t .answer) ≡ 10 → tell past t .list ≡ t .list
     unfolding classStore listAfter accepted
-    ten-writes-nothing e = ap (λ (a : Answer). listAfter (written d table (hides (s .marks) (t .desk)) (own s (t .desk)) (t .call)) a (t .list)) (ten-is (tell past t .answer) e)
+    ten-writes-nothing e =
+        ap (λ (a : Answer). listAfter (written d table (hides (s .marks) (t .desk)) (own s (t .desk)) (t .call)) a (t .list))
+        (ten-is (tell past t .answer) e)
 
-pub class-keeps : (d : ℕ) (table : List ℕ) (desks : ℕ) → accepted (begunAnswer d table desks) ≡ true → Demand3 d table desks (classStore d table desks)
+pub class-keeps : (d : ℕ) (table : List ℕ) (desks : ℕ) → accepted (begunAnswer d table desks) ≡ true
+    → Demand3 d table desks (classStore d table desks)
 class-keeps d table desks begun =
     let good = good-parts d table desks begun in
     record {

@@ -65,7 +65,8 @@ module _ {d : ℕ} {table : List ℕ} {desks : ℕ} (good : Good d table desks) 
     low : k < mostDesks
     low = omega (arith, good .few-desks)
 
-    own-same : (c : Call) (h : List Call) → Allowed d (length table) (crowded s) (own s k) c → own s k ≡ ownIn h → own (changed s k c) k ≡ ownIn (c ∷ h)
+    own-same : (c : Call) (h : List Call) → Allowed d (length table) (crowded s) (own s k) c → own s k ≡ ownIn h
+        → own (changed s k c) k ≡ ownIn (c ∷ h)
     unfolding changed ownIn
     own-same (Do (Delete (Table n))) h a e = e
     own-same (Do (Delete (Own n))) h a e = own-without-same s k n (suc n) (omega arith) ∙ ap (λ (l : List ℕ). take n l ++ drop (suc n) l) e
@@ -94,7 +95,8 @@ module _ {d : ℕ} {table : List ℕ} {desks : ℕ} (good : Good d table desks) 
       own-other (Do Reset) a = own-without-other s k zero mostPlaces j ne
       own-other (Ask q) a = refl
 
-      hides-there : (c : Call) → Allowed d (length table) (crowded s) (own s k) c → (n : ℕ) → n < mostRows → hides (changed s k c .marks) j n ≡ hides (s .marks) j n
+      hides-there : (c : Call) → Allowed d (length table) (crowded s) (own s k) c → (n : ℕ) → n < mostRows
+          → hides (changed s k c .marks) j n ≡ hides (s .marks) j n
       unfolding changed
       hides-there (Do (Delete (Table m))) a n l = hides-other (s .marks) k m (r .whole .marks-long) low (narrow a) j n l (inl ne)
       hides-there (Do (Delete (Own m))) a n l = refl
@@ -103,7 +105,8 @@ module _ {d : ℕ} {table : List ℕ} {desks : ℕ} (good : Good d table desks) 
       hides-there (Ask q) a n l = refl
 
     -- whose call it is, or another's
-    agrees-after : (c : Call) → Allowed d (length table) (crowded s) (own s k) c → (j : ℕ) (h : List Call) → Agrees s j h → Agrees (changed s k c) j (cond (eqb k j) (c ∷ h) h)
+    agrees-after : (c : Call) → Allowed d (length table) (crowded s) (own s k) c → (j : ℕ) (h : List Call) → Agrees s j h
+        → Agrees (changed s k c) j (cond (eqb k j) (c ∷ h) h)
     agrees-after c a j h g = elim (ℕ-discrete j k) [
       | yes e ↦
           (let rows : own s k ≡ ownIn h = rw e at (g .rows) in
@@ -127,7 +130,8 @@ module _ {d : ℕ} {table : List ℕ} {desks : ℕ} (good : Good d table desks) 
   agrees (t ∷ past) k h = go (accepted (answered d table (sheet past) (t .desk) (t .call) (length (t .list)))) refl (agrees past k h)
     where
       go : (b : Bool) → accepted (answered d table (sheet past) (t .desk) (t .call) (length (t .list))) ≡ b → Agrees (sheet past) k (calls k past)
-          → Agrees (cond b (changed (sheet past) (t .desk) (t .call)) (sheet past)) k (cond (eqb (t .desk) k && b) (t .call ∷ calls k past) (calls k past))
+          → Agrees (cond b (changed (sheet past) (t .desk) (t .call)) (sheet past)) k
+          (cond (eqb (t .desk) k && b) (t .call ∷ calls k past) (calls k past))
       go true e g =
           let has = call-has good (reached good past) (t .desk) (t .call) (length (t .list)) e in
           rw (accepted-call (eqb (t .desk) k) (t .call ∷ calls k past) (calls k past))
@@ -138,7 +142,8 @@ module _ {d : ℕ} {table : List ℕ} {desks : ℕ} (good : Good d table desks) 
   pub no-history : (past : List Turn) (k : ℕ) → desks ≤ k → calls k past ≡ []
   unfolding history classStore
   no-history [] k h = refl
-  no-history (t ∷ past) k h = go (eqb (t .desk) k) refl (accepted (answered d table (sheet past) (t .desk) (t .call) (length (t .list)))) refl (no-history past k h)
+  no-history (t ∷ past) k h =
+      go (eqb (t .desk) k) refl (accepted (answered d table (sheet past) (t .desk) (t .call) (length (t .list)))) refl (no-history past k h)
     where
       go : (a : Bool) → eqb (t .desk) k ≡ a → (b : Bool) → accepted (answered d table (sheet past) (t .desk) (t .call) (length (t .list))) ≡ b
           → calls k past ≡ [] → cond (a && b) (t .call ∷ calls k past) (calls k past) ≡ []

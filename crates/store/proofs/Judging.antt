@@ -33,7 +33,8 @@ use Rattle.refusals.proofs.TablesJudged.{TableRight, right-parts, parts-right, 
 use Rattle.store.specs.Calls.{beginCases, begunAnswer, crowded}
 
 -- where the answer accepts, the first case does not apply
-pub passed : (b : Bool) (r : Refusal) (cs : List Case) (a : Answer) → accepted (decided Refused ((b gives r) ∷ cs) a) ≡ true → (b ≡ false) × (accepted (decided Refused cs a) ≡ true)
+pub passed : (b : Bool) (r : Refusal) (cs : List Case) (a : Answer) → accepted (decided Refused ((b gives r) ∷ cs) a) ≡ true
+    → (b ≡ false) × (accepted (decided Refused cs a) ≡ true)
 unfolding decided accepted
 passed true r cs a t = absurd (false≢true t)
 passed false r cs a t = (refl, t)
@@ -80,7 +81,8 @@ good-parts d table desks t =
     let none = none-apply (beginCases d table desks) Done t in
     let number = or-no (eqb desks zero) (ltb mostDesks desks) (none .1 .1 .0) in
     let desks-not : desks ≡ zero → ⊥ = eqb-false desks zero (number .0) in
-    record { right = right-parts mostRows d table (none .0, (none .1 .0, tt)); some-desk = omega arith; few-desks = ltb-false mostDesks desks (number .1) }
+    record
+    { right = right-parts mostRows d table (none .0, (none .1 .0, tt)); some-desk = omega arith; few-desks = ltb-false mostDesks desks (number .1) }
 
 pub parts-good : {d : ℕ} {table : List ℕ} {desks : ℕ} → Good d table desks → accepted (begunAnswer d table desks) ≡ true
 unfolding begunAnswer tableCases accepted
@@ -104,7 +106,8 @@ and-no : (a b : Bool) → (a && b) ≡ false → b ≡ true → a ≡ false
 and-no false b e t = refl
 and-no true b e t = absurd (false≢true (sym e ∙ t))
 
-pub allowed : (d : ℕ) (table : List ℕ) (full : Bool) (places : ℕ) (hid : ℕ → Bool) (own : List ℕ) (c : Call) → accepted (serve d table full places hid own c) ≡ true
+pub allowed : (d : ℕ) (table : List ℕ) (full : Bool) (places : ℕ) (hid : ℕ → Bool) (own : List ℕ) (c : Call)
+    → accepted (serve d table full places hid own c) ≡ true
     → Allowed d (length table) full own c
 unfolding serve
 allowed d table full places hid own (Do (Delete (Table n))) t =
@@ -123,7 +126,8 @@ allowed d table full places hid own (Do Reset) t = tt
 allowed d table full places hid own (Ask q) t = tt
 
 -- an accepted insert finds a place that is free, or promised to its desk
-pub has-room : (s : Sheet) → sound s ≡ true → (k : ℕ) → (crowded s ≡ true → length (own s k) < promised) → (held s k < promised) ⊎ (s .used + owed s < mostPlaces)
+pub has-room : (s : Sheet) → sound s ≡ true → (k : ℕ) → (crowded s ≡ true → length (own s k) < promised)
+    → (held s k < promised) ⊎ (s .used + owed s < mostPlaces)
 unfolding crowded
 has-room s right k few = elim (true-or-false (crowded s)) [
   | inl e ↦ inl (omega (arith, few e, length-own s k))

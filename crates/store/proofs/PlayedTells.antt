@@ -69,7 +69,8 @@ module _ (d : ℕ) (table : List ℕ) (desks : ℕ) where
       let q = c .asks in (
         c .tells ∙ (λ i. record { answer = c .admitted .0 i .answer; list = c .admitted .1 i })
             ∙ (λ i. told (l .1 i) (l .0 i) (l .2 i) (q .0 i) (q .1 i) (q .2 i)),
-        c .hands-back ∙ ap (λ (r : Reply). r .sheet) (c .admitted .0) ∙ (λ i. sheetAfter (l .1 i) (l .0 i) (l .2 i) (q .0 i) (q .1 i) (length (q .2 i))),
+        c .hands-back ∙ ap (λ (r : Reply). r .sheet) (c .admitted .0)
+            ∙ (λ i. sheetAfter (l .1 i) (l .0 i) (l .2 i) (q .0 i) (q .1 i) (length (q .2 i))),
       )
 
   -- the sheets of such a run are those of `classStore`

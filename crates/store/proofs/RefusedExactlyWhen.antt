@@ -76,7 +76,8 @@ module _ (d : ℕ) (table : List ℕ) (s : Sheet) (k : ℕ) (c : Call) (places :
       chained Refused (tableCases mostRows d table ++ sheetCases d table s k) (callCases d table (crowded s) places hid (own s k) c) grants
       ∙ ap (λ (cs : List Case). decided Refused cs grants) (append-assoc (tableCases mostRows d table) (sheetCases d table s k) _)
 
-  accepts : (c : Call) → (numberOf (granted d table (crowded s) places hid (own s k) c) ≡ 0) × (rowOf (granted d table (crowded s) places hid (own s k) c) ≡ 0)
+  accepts : (c : Call)
+      → (numberOf (granted d table (crowded s) places hid (own s k) c) ≡ 0) × (rowOf (granted d table (crowded s) places hid (own s k) c) ≡ 0)
   accepts (Do c) = (refl, refl)
   accepts (Ask (Look n)) = (refl, refl)
   accepts (Ask Count) = (refl, refl)

@@ -44,7 +44,8 @@ unfolding decided accepted
 stopped [] ds a e = absurd (true≢false e)
 stopped (c ∷ cs) ds a e = go (c .applies) e (stopped cs ds a)
   where
-    go : (b : Bool) → accepted (cond b (Refused (c .refusal)) (decided Refused cs Done)) ≡ false → (accepted (decided Refused cs Done) ≡ false → decided Refused (cs ++ ds) a ≡ decided Refused cs Done)
+    go : (b : Bool) → accepted (cond b (Refused (c .refusal)) (decided Refused cs Done)) ≡ false
+        → (accepted (decided Refused cs Done) ≡ false → decided Refused (cs ++ ds) a ≡ decided Refused cs Done)
         → cond b (Refused (c .refusal)) (decided Refused (cs ++ ds) a) ≡ cond b (Refused (c .refusal)) (decided Refused cs Done)
     go true e p = refl
     go false e p = p e
@@ -55,7 +56,8 @@ unfolding decided accepted
 went-on [] ds a e = refl
 went-on (c ∷ cs) ds a e = go (c .applies) e (went-on cs ds a)
   where
-    go : (b : Bool) → accepted (cond b (Refused (c .refusal)) (decided Refused cs Done)) ≡ true → (accepted (decided Refused cs Done) ≡ true → decided Refused (cs ++ ds) a ≡ decided Refused ds a)
+    go : (b : Bool) → accepted (cond b (Refused (c .refusal)) (decided Refused cs Done)) ≡ true
+        → (accepted (decided Refused cs Done) ≡ true → decided Refused (cs ++ ds) a ≡ decided Refused ds a)
         → cond b (Refused (c .refusal)) (decided Refused (cs ++ ds) a) ≡ decided Refused ds a
     go true e p = absurd (false≢true e)
     go false e p = p e
@@ -66,7 +68,8 @@ unfolding decided accepted
 done [] e = refl
 done (c ∷ cs) e = go (c .applies) e (done cs)
   where
-    go : (b : Bool) → accepted (cond b (Refused (c .refusal)) (decided Refused cs Done)) ≡ true → (accepted (decided Refused cs Done) ≡ true → decided Refused cs Done ≡ Done)
+    go : (b : Bool) → accepted (cond b (Refused (c .refusal)) (decided Refused cs Done)) ≡ true
+        → (accepted (decided Refused cs Done) ≡ true → decided Refused cs Done ≡ Done)
         → cond b (Refused (c .refusal)) (decided Refused cs Done) ≡ Done
     go true e p = absurd (false≢true e)
     go false e p = p e
@@ -77,12 +80,15 @@ module _ (d : ℕ) (table : List ℕ) (desks : ℕ) where
   pub begun-refused : accepted (decided Refused (tableCases mostRows d table) Done) ≡ false
       → record { answer = decided Refused (tableCases mostRows d table) Done; sheet = freshSheet zero zero zero } ≡ begun d table desks
   unfolding begunAnswer begunSheet
-  begun-refused e = let stop = stopped (tableCases mostRows d table) (((eqb desks zero || ltb mostDesks desks) gives BadDesks) ∷ []) Done e in rw (stop, e) refl
+  begun-refused e =
+      let stop = stopped (tableCases mostRows d table) (((eqb desks zero || ltb mostDesks desks) gives BadDesks) ∷ []) Done e in rw (stop, e) refl
 
   module _ (right : accepted (decided Refused (tableCases mostRows d table) Done) ≡ true) where
-    pub begun-desks : (eqb desks zero || ltb mostDesks desks) ≡ true → record { answer = Refused BadDesks; sheet = freshSheet zero zero zero } ≡ begun d table desks
+    pub begun-desks : (eqb desks zero || ltb mostDesks desks) ≡ true
+        → record { answer = Refused BadDesks; sheet = freshSheet zero zero zero } ≡ begun d table desks
     unfolding begunAnswer begunSheet decided accepted
-    begun-desks e = let on = went-on (tableCases mostRows d table) (((eqb desks zero || ltb mostDesks desks) gives BadDesks) ∷ []) Done right in rw (on, e) refl
+    begun-desks e =
+        let on = went-on (tableCases mostRows d table) (((eqb desks zero || ltb mostDesks desks) gives BadDesks) ∷ []) Done right in rw (on, e) refl
 
     pub begun-right : (eqb desks zero || ltb mostDesks desks) ≡ false
         → record { answer = decided Refused (tableCases mostRows d table) Done; sheet = freshSheet d (length table) desks } ≡ begun d table desks
@@ -111,7 +117,8 @@ module _ (d : ℕ) (table : List ℕ) (s : Sheet) (k : ℕ) (c : Call) (old : Li
   }
 
   -- refusals 1 and 2
-  pub table-refused : accepted (decided Refused (tableCases mostRows d table) Done) ≡ false → Responded d table s k c old (decided Refused (tableCases mostRows d table) Done) old
+  pub table-refused : accepted (decided Refused (tableCases mostRows d table) Done) ≡ false
+      → Responded d table s k c old (decided Refused (tableCases mostRows d table) Done) old
   unfolding answered
   table-refused e =
       refused (decided Refused (tableCases mostRows d table) Done)
@@ -121,7 +128,8 @@ module _ (d : ℕ) (table : List ℕ) (s : Sheet) (k : ℕ) (c : Call) (old : Li
   module _ (right : accepted (decided Refused (tableCases mostRows d table) Done) ≡ true) where
     on : answered d table s k c (length old) ≡ decided Refused (sheetCases d table s k) (serve d table (crowded s) (length old) (hides (s .marks) k) (own s k) c)
     unfolding answered
-    on = went-on (tableCases mostRows d table) (sheetCases d table s k) (serve d table (crowded s) (length old) (hides (s .marks) k) (own s k) c) right
+    on =
+        went-on (tableCases mostRows d table) (sheetCases d table s k) (serve d table (crowded s) (length old) (hides (s .marks) k) (own s k) c) right
 
     -- refusal 3
     pub sheet-refused : sound s ≡ false → Responded d table s k c old (Refused Unsound) old
@@ -130,7 +138,8 @@ module _ (d : ℕ) (table : List ℕ) (s : Sheet) (k : ℕ) (c : Call) (old : Li
 
     module _ (whole : sound s ≡ true) where
       on-desk : answered d table s k c (length old)
-          ≡ decided Refused (deskCases d (length table) (s .d) (s .rows) (s .desks) k) (serve d table (crowded s) (length old) (hides (s .marks) k) (own s k) c)
+          ≡ decided Refused (deskCases d (length table) (s .d) (s .rows) (s .desks) k)
+          (serve d table (crowded s) (length old) (hides (s .marks) k) (own s k) c)
       unfolding sheetCases decided
       on-desk = on ∙ (rw whole refl)
 
@@ -139,16 +148,19 @@ module _ (d : ℕ) (table : List ℕ) (s : Sheet) (k : ℕ) (c : Call) (old : Li
           → Responded d table s k c old (decided Refused (deskCases d (length table) (s .d) (s .rows) (s .desks) k) Done) old
       desk-refused e =
           let cases = deskCases d (length table) (s .d) (s .rows) (s .desks) k in
-          refused (decided Refused cases Done) (on-desk ∙ stopped cases [] (serve d table (crowded s) (length old) (hides (s .marks) k) (own s k) c) e) e
+          refused (decided Refused cases Done)
+          (on-desk ∙ stopped cases [] (serve d table (crowded s) (length old) (hides (s .marks) k) (own s k) c) e) e
 
       -- refusals 6 to 12, and the answers
-      call-served : accepted (decided Refused (deskCases d (length table) (s .d) (s .rows) (s .desks) k) Done) ≡ true → (a : Answer) (list : List ℕ) → Served d table s k c old a list
+      call-served : accepted (decided Refused (deskCases d (length table) (s .d) (s .rows) (s .desks) k) Done) ≡ true → (a : Answer) (list : List ℕ)
+          → Served d table s k c old a list
           → (accepted a ≡ true → Possible s k c) → Responded d table s k c old a list
       unfolding decided
       call-served known a list served can =
           let here : answered d table s k c (length old) ≡ a
           = on-desk
-          ∙ went-on (deskCases d (length table) (s .d) (s .rows) (s .desks) k) [] (serve d table (crowded s) (length old) (hides (s .marks) k) (own s k) c) known
+          ∙ went-on (deskCases d (length table) (s .d) (s .rows) (s .desks) k) []
+          (serve d table (crowded s) (length old) (hides (s .marks) k) (own s k) c) known
           ∙ sym (served .answer-is) in
           record { answer-is = sym here; list-is = rw here (served .list-is); room = can }
 
@@ -172,7 +184,8 @@ module _ (d : ℕ) (table : List ℕ) (s : Sheet) (k : ℕ) (c : Call) (old : Li
     carried-question t q e = carried-accepted t s (rw e refl)
 
 -- rows are taken out, and the marks are others
-pub placed-out : (s : Sheet) (k from upto left : ℕ) (marks marks′ sets′ owners′ : List ℕ) → TakenOut k from upto (s .sets) (s .owners) (s .used) left sets′ owners′ → marks ≡ marks′
+pub placed-out : (s : Sheet) (k from upto left : ℕ) (marks marks′ sets′ owners′ : List ℕ)
+    → TakenOut k from upto (s .sets) (s .owners) (s .used) left sets′ owners′ → marks ≡ marks′
     → sheetOf (s .d) (s .rows) (s .desks) left marks sets′ owners′ ≡ marking (without s k from upto) marks′
 placed-out s k from upto left marks marks′ sets′ owners′ T m =
     λ i. record { d = s .d; rows = s .rows; desks = s .desks; used = T .count i; marks = m i; sets = T .rows i; owners = T .desks i }
@@ -211,8 +224,10 @@ possible d table s counts k T c places t = go c (allowed d table (crowded s) pla
     go (Do Reset) a = (L .used, L .desk)
     go (Ask q) a = tt
 
-module _ (d : ℕ) (table : List ℕ) (k : ℕ) {s : Sheet} {r : Bool} {counts : List ℕ} (right : accepted (decided Refused (tableCases mostRows d table) Done) ≡ true)
-    (survey : Surveyed sound s r counts) (whole : r ≡ true) (known : accepted (decided Refused (deskCases d (length table) (s .d) (s .rows) (s .desks) k) Done) ≡ true) where
+module _ (d : ℕ) (table : List ℕ) (k : ℕ) {s : Sheet} {r : Bool} {counts : List ℕ}
+    (right : accepted (decided Refused (tableCases mostRows d table) Done) ≡ true)
+    (survey : Surveyed sound s r counts) (whole : r ≡ true)
+    (known : accepted (decided Refused (deskCases d (length table) (s .d) (s .rows) (s .desks) k) Done) ≡ true) where
   -- the parts of the sheet are read with the d and T of the table lent
   same-parts : (sheetOf d (length table) (s .desks) (s .used) (s .marks) (s .sets) (s .owners) ≡ s) × (k < s .desks)
   same-parts =
@@ -232,7 +247,8 @@ module _ (d : ℕ) (table : List ℕ) (k : ℕ) {s : Sheet} {r : Bool} {counts :
   trusted-parts = subst (λ (t : Sheet). Trusted d table t counts k) (sym (same-parts .0)) trusted
 
   pub served-responds : {c : Call} {old : List ℕ} {a : Answer} {list : List ℕ}
-      → Served d table (sheetOf d (length table) (s .desks) (s .used) (s .marks) (s .sets) (s .owners)) k c old a list → Responded d table s k c old a list
+      → Served d table (sheetOf d (length table) (s .desks) (s .used) (s .marks) (s .sets) (s .owners)) k c old a list
+      → Responded d table s k c old a list
   served-responds {c} {old} {a} {list} parts =
       let served = subst (λ (t : Sheet). Served d table t k c old a list) (same-parts .0) parts in
       call-served d table s k c old right is-sound known a list served

@@ -51,11 +51,13 @@ module _ {d : ℕ} {table : List ℕ} {s : Sheet} {counts : List ℕ} {k : ℕ} 
 
   -- ---- a call
 
-  pub served-change : (old : List ℕ) (c : Call) (change : Change) → c ≡ Do change → (r : Answer) → ChangeJudged d table s k change r → Served d table s k c old r old
+  pub served-change : (old : List ℕ) (c : Call) (change : Change) → c ≡ Do change → (r : Answer) → ChangeJudged d table s k change r
+      → Served d table s k c old r old
   unfolding serve written
   served-change old c change e r a = rw e record { answer-is = a; list-is = nothing-written r old }
 
-  pub served-question : (old : List ℕ) (c : Call) (q : Question) → c ≡ Ask q → (m : ℕ) (rows : List ℕ) → Viewed table (hides (s .marks) k) (own s k) m rows
+  pub served-question : (old : List ℕ) (c : Call) (q : Question) → c ≡ Ask q → (m : ℕ) (rows : List ℕ)
+      → Viewed table (hides (s .marks) k) (own s k) m rows
       → (r : Answer) (list : List ℕ) → Replied d (take m rows) (at counts k) q old r list → Served d table s k c old r list
   unfolding serve written
   served-question old c q e m rows seen r list R =

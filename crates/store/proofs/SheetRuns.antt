@@ -41,7 +41,8 @@ pub record Reached (d : ℕ) (table : List ℕ) (desks : ℕ) (s : Sheet) : Type
 
 -- ---- begin
 
-pub refused-begin-unsound : (d : ℕ) (table : List ℕ) (desks : ℕ) → accepted (begunAnswer d table desks) ≡ false → sound (begunSheet d table desks) ≡ false
+pub refused-begin-unsound : (d : ℕ) (table : List ℕ) (desks : ℕ) → accepted (begunAnswer d table desks) ≡ false
+    → sound (begunSheet d table desks) ≡ false
 unfolding begunSheet
 refused-begin-unsound d table desks e = rw e zeros-unsound
 
@@ -77,7 +78,8 @@ module _ {d : ℕ} {table : List ℕ} {desks : ℕ} (good : Good d table desks) 
       let p = passed (leb desks k) NoDesk [] a (sym (ap accepted (answered-here r k c places)) ∙ t) in
       (leb-false desks k (p .0), allowed d table (crowded s) places (hides (s .marks) k) (own s k) c (p .1))
 
-  after : {s : Sheet} → Reached d table desks s → (k : ℕ) (c : Call) → k < desks → Allowed d (length table) (crowded s) (own s k) c → Reached d table desks (changed s k c)
+  after : {s : Sheet} → Reached d table desks s → (k : ℕ) (c : Call) → k < desks → Allowed d (length table) (crowded s) (own s k) c
+      → Reached d table desks (changed s k c)
   unfolding changed
   after {s} r k (Do (Delete (Table n))) h a =
       record {
@@ -99,7 +101,8 @@ module _ {d : ℕ} {table : List ℕ} {desks : ℕ} (good : Good d table desks) 
       record {
         whole = whole-adding k set (r .whole);
         stays-sound =
-            sound-adding k set (r .whole) (r .stays-sound) (omega (arith, r .same-desks)) (rw (r .same-d) (a .0)) (omega (arith, a .1, length-own s k))
+            sound-adding k set (r .whole) (r .stays-sound) (omega (arith, r .same-desks)) (rw (r .same-d) (a .0))
+            (omega (arith, a .1, length-own s k))
             (has-room s (r .stays-sound) k (a .2));
         same-d = r .same-d;
         same-rows = r .same-rows;
@@ -123,11 +126,13 @@ module _ {d : ℕ} {table : List ℕ} {desks : ℕ} (good : Good d table desks) 
   reached (t ∷ past) = go (accepted (answered d table (sheetOn d table desks past) (t .desk) (t .call) (length (t .list)))) refl (reached past)
     where
       go : (b : Bool) → accepted (answered d table (sheetOn d table desks past) (t .desk) (t .call) (length (t .list))) ≡ b
-          → Reached d table desks (sheetOn d table desks past) → Reached d table desks (cond b (changed (sheetOn d table desks past) (t .desk) (t .call)) (sheetOn d table desks past))
+          → Reached d table desks (sheetOn d table desks past)
+          → Reached d table desks (cond b (changed (sheetOn d table desks past) (t .desk) (t .call)) (sheetOn d table desks past))
       go true e r =
           let has = call-has r (t .desk) (t .call) (length (t .list)) e in
           after r (t .desk) (t .call) (has .0) (has .1)
       go false e r = r
 
-pub reached-sound : (d : ℕ) (table : List ℕ) (desks : ℕ) → accepted (begunAnswer d table desks) ≡ true → (past : List Turn) → sound (sheetOn d table desks past) ≡ true
+pub reached-sound : (d : ℕ) (table : List ℕ) (desks : ℕ) → accepted (begunAnswer d table desks) ≡ true → (past : List Turn)
+    → sound (sheetOn d table desks past) ≡ true
 reached-sound d table desks t past = reached (good-parts d table desks t) past .stays-sound

@@ -43,7 +43,8 @@ module _ (table : List ℕ) (hid hid′ : ℕ → Bool) (own : List ℕ) (same :
   unfolding serve decided
   serve-same d full places (Do (Delete (Table n))) = go (leb (length table) n) refl
     where
-      go : (b : Bool) → leb (length table) n ≡ b → cond b (Refused NoRow) (cond (hid n) (Refused HiddenAlready) Done) ≡ cond b (Refused NoRow) (cond (hid′ n) (Refused HiddenAlready) Done)
+      go : (b : Bool) → leb (length table) n ≡ b
+          → cond b (Refused NoRow) (cond (hid n) (Refused HiddenAlready) Done) ≡ cond b (Refused NoRow) (cond (hid′ n) (Refused HiddenAlready) Done)
       go true e = refl
       go false e = rw (same n (leb-false (length table) n e))
   serve-same d full places (Do (Delete (Own n))) = refl
@@ -75,7 +76,8 @@ ten-is (Listed n) e = absurd (omega arith)
 ten-is (Refused r) e = ap Refused (ten-no-room r e)
 
 module _ (d : ℕ) (table : List ℕ) (full : Bool) (places : ℕ) (hid : ℕ → Bool) (own : List ℕ) where
-  pub serve-ten : (c : Call) → numberOf (serve d table full places hid own c) ≡ 10 → (properCall d c ≡ true) × (promised ≤ length own) × (length own < mostHeld) × (full ≡ true)
+  pub serve-ten : (c : Call) → numberOf (serve d table full places hid own c) ≡ 10
+      → (properCall d c ≡ true) × (promised ≤ length own) × (length own < mostHeld) × (full ≡ true)
   unfolding serve properCall decided
   serve-ten (Do (Delete (Table n))) e =
       absurd (omega (
@@ -107,7 +109,8 @@ module _ (d : ℕ) (table : List ℕ) (full : Bool) (places : ℕ) (hid : ℕ �
             (skipped 10 (ltb places (length (view table hid own))) ShortList ((long gives LongView) ∷ []) a (omega arith) e .1) .1,
       ))
 
-  pub ten-serve : (c : Call) → properCall d c ≡ true → promised ≤ length own → length own < mostHeld → full ≡ true → numberOf (serve d table full places hid own c) ≡ 10
+  pub ten-serve : (c : Call) → properCall d c ≡ true → promised ≤ length own → length own < mostHeld → full ≡ true
+      → numberOf (serve d table full places hid own c) ≡ 10
   unfolding serve properCall decided
   ten-serve (Do (Delete t)) p lo hi f = absurd (false≢true p)
   ten-serve (Do (Insert set)) p lo hi f = rw (p, lt-leb mostHeld (length own) hi, le-leb promised (length own) lo, f)
@@ -131,13 +134,15 @@ module _ (d : ℕ) (table : List ℕ) (full : Bool) (places : ℕ) (hid : ℕ �
   serve-free (Ask q) p h f = absurd (false≢true p)
 
   -- the other desks enter through `full` alone, and only by refusal 10
-  pub serve-but-ten : (c : Call) → numberOf (serve d table full places hid own c) ≢ 10 → serve d table full places hid own c ≡ serve d table false places hid own c
+  pub serve-but-ten : (c : Call) → numberOf (serve d table full places hid own c) ≢ 10
+      → serve d table full places hid own c ≡ serve d table false places hid own c
   unfolding serve decided
   serve-but-ten (Do (Delete (Table n))) ne = refl
   serve-but-ten (Do (Delete (Own n))) ne = refl
   serve-but-ten (Do (Insert set)) ne = go (not (within d set)) (leb mostHeld (length own)) (leb promised (length own)) full ne
     where
-      go : (a b c f : Bool) → let tests : Bool → Answer = λ x. decided Refused ((a gives BadSet) ∷ (b gives Full) ∷ ((c && x) gives NoRoom) ∷ []) Done in
+      go : (a b c f : Bool) → let tests : Bool
+          → Answer = λ x. decided Refused ((a gives BadSet) ∷ (b gives Full) ∷ ((c && x) gives NoRoom) ∷ []) Done in
           numberOf (tests f) ≢ 10 → tests f ≡ tests false
       go true b c f ne = refl
       go false true c f ne = refl

@@ -44,11 +44,13 @@ view-most table hid own =
     let f : ℕ → Bool = λ i. not (hid i) in
     omega (arith, length-append (those f table (length table)) own, length-those f table (length table), count-le f (length table))
 
-module _ (d : ℕ) (table : List ℕ) (full : Bool) (places : ℕ) (hid : ℕ → Bool) (own : List ℕ) (small : length table ≤ mostRows) (few : length own ≤ mostHeld) where
+module _ (d : ℕ) (table : List ℕ) (full : Bool) (places : ℕ) (hid : ℕ → Bool) (own : List ℕ) (small : length table ≤ mostRows)
+    (few : length own ≤ mostHeld) where
   not-served : (c : Call) → numberOf (serve d table full places hid own c) ≢ 12
   unfolding serve decided
   not-served (Do (Delete (Table n))) e =
-      omega (arith, skipped 12 (hid n) HiddenAlready [] Done (omega arith) (skipped 12 (leb (length table) n) NoRow ((hid n gives HiddenAlready) ∷ []) Done (omega arith) e .1) .1)
+      omega
+      (arith, skipped 12 (hid n) HiddenAlready [] Done (omega arith) (skipped 12 (leb (length table) n) NoRow ((hid n gives HiddenAlready) ∷ []) Done (omega arith) e .1) .1)
   not-served (Do (Delete (Own n))) e = omega (arith, skipped 12 (leb (length own) n) NoRow [] Done (omega arith) e .1)
   not-served (Do (Insert set)) e =
       let room : List Case = ((leb promised (length own) && full) gives NoRoom) ∷ [] in

@@ -68,7 +68,8 @@ pub within-one : (d : ℕ) → 1 ≤ d → within d 1 ≡ true
 unfolding within below
 within-one d h = lt-ltb 1 (2 ^ d) (pow-lt {i = zero} {j = d} h)
 
-module _ {d : ℕ} {table : List ℕ} {desks : ℕ} {tell : Store} (begun : accepted (begunAnswer d table desks) ≡ true) (keeps : Demand3 d table desks tell) where
+module _ {d : ℕ} {table : List ℕ} {desks : ℕ} {tell : Store} (begun : accepted (begunAnswer d table desks) ≡ true)
+    (keeps : Demand3 d table desks tell) where
   -- desk k's view
   abbrev pub seen : ℕ → List Turn → List ℕ
   seen k past = view table (member (hiddenIn (history tell k past))) (ownIn (history tell k past))
@@ -82,14 +83,16 @@ module _ {d : ℕ} {table : List ℕ} {desks : ℕ} {tell : Store} (begun : acce
   abbrev served : ℕ → Call → List ℕ → List Turn → Answer
   served k c list past = serve d table false (length list) (member (hiddenIn (history tell k past))) (ownIn (history tell k past)) c
 
-  answered-alone : (past : List Turn) (k : ℕ) (c : Call) (list : List ℕ) → k < desks → properCall d c ≡ false → tell past (turn k c list) .answer ≡ served k c list past
+  answered-alone : (past : List Turn) (k : ℕ) (c : Call) (list : List ℕ) → k < desks → properCall d c ≡ false
+      → tell past (turn k c list) .answer ≡ served k c list past
   unfolding alone
   answered-alone past k c list h off =
       ap (λ (a : Told). a .answer) (told-alone past (turn k c list) off)
       ∙ not-given (leb desks k) NoDesk (served k c list past) (lt-leb desks k h)
 
   -- what is accepted is of a desk that is there
-  accepted-alone : (past : List Turn) (k : ℕ) (c : Call) (list : List ℕ) → properCall d c ≡ false → accepted (tell past (turn k c list) .answer) ≡ true
+  accepted-alone : (past : List Turn) (k : ℕ) (c : Call) (list : List ℕ) → properCall d c ≡ false
+      → accepted (tell past (turn k c list) .answer) ≡ true
       → (k < desks) × (accepted (served k c list past) ≡ true)
   unfolding alone decided
   accepted-alone past k c list off t =
@@ -108,7 +111,8 @@ module _ {d : ℕ} {table : List ℕ} {desks : ℕ} {tell : Store} (begun : acce
   no-store-always-refuses refuses =
       let good = good-parts d table desks begun in
       let t = turn zero (Do (Insert 1)) [] in
-      not-both (keeps .next [] t (and-both (ltb zero desks) (within d 1) (lt-ltb zero desks (good .some-desk)) (within-one d (good .right .some-value))) (omega arith)) (refuses [] t)
+      not-both
+      (keeps .next [] t (and-both (ltb zero desks) (within d 1) (lt-ltb zero desks (good .some-desk)) (within-one d (good .right .some-value))) (omega arith)) (refuses [] t)
 
   -- ---- a made-up count: the rows in the view, and its inserts less its removals since the last reset
 
@@ -140,7 +144,8 @@ module _ {d : ℕ} {table : List ℕ} {desks : ℕ} {tell : Store} (begun : acce
       (omega (arith, length-view table (member (hiddenIn h)) (ownIn h), length-view table (λ i. eqb n i || member (hiddenIn h) i) (ownIn h)))
 
   -- after an accepted table delete, whatever came before, the desk counts one row less, and the row can't be deleted again
-  pub no-delete-hides-nothing : (past : List Turn) (k n : ℕ) (list : List ℕ) → let t = turn k (Do (Delete (Table n))) list in accepted (tell past t .answer) ≡ true
+  pub no-delete-hides-nothing : (past : List Turn) (k n : ℕ) (list : List ℕ)
+      → let t = turn k (Do (Delete (Table n))) list in accepted (tell past t .answer) ≡ true
       → (list′ : List ℕ) → (r : ℕ) × (tell past (turn k (Ask Count) list′) .answer ≡ Counted (suc r) (heldBy tell k past))
       × (tell (t ∷ past) (turn k (Ask Count) list′) .answer ≡ Counted r (heldBy tell k past))
       × (tell (t ∷ past) (turn k (Do (Delete (Table n))) list′) .answer ≡ Refused HiddenAlready)
@@ -156,8 +161,10 @@ module _ {d : ℕ} {table : List ℕ} {desks : ℕ} {tell : Store} (begun : acce
       )
 
   -- the same of an own row
-  pub no-own-delete-takes-nothing : (past : List Turn) (k n : ℕ) (list : List ℕ) → let t = turn k (Do (Delete (Own n))) list in accepted (tell past t .answer) ≡ true
-      → (list′ : List ℕ) → (r m : ℕ) × (tell past (turn k (Ask Count) list′) .answer ≡ Counted (suc r) (suc m)) × (tell (t ∷ past) (turn k (Ask Count) list′) .answer ≡ Counted r m)
+  pub no-own-delete-takes-nothing : (past : List Turn) (k n : ℕ) (list : List ℕ)
+      → let t = turn k (Do (Delete (Own n))) list in accepted (tell past t .answer) ≡ true
+      → (list′ : List ℕ)
+      → (r m : ℕ) × (tell past (turn k (Ask Count) list′) .answer ≡ Counted (suc r) (suc m)) × (tell (t ∷ past) (turn k (Ask Count) list′) .answer ≡ Counted r m)
   unfolding serve properCall hiddenIn ownIn
   no-own-delete-takes-nothing past k n list t list′ =
       let after = turn k (Do (Delete (Own n))) list ∷ past in
@@ -173,7 +180,8 @@ module _ {d : ℕ} {table : List ℕ} {desks : ℕ} {tell : Store} (begun : acce
         length (view table hid rest),
         length rest,
         no-made-up-count past k list′ (p .0) ∙ ap₂ Counted rows held,
-        no-made-up-count after k list′ (p .0) ∙ ap (λ (l : List Call). Counted (length (view table (member (hiddenIn l)) (ownIn l))) (length (ownIn l))) next,
+        no-made-up-count after k list′ (p .0)
+            ∙ ap (λ (l : List Call). Counted (length (view table (member (hiddenIn l)) (ownIn l))) (length (ownIn l))) next,
       )
 
   -- ---- a delete that only honours its first call: whatever the desk deleted before, a row that it has not hidden is hidden
@@ -195,7 +203,8 @@ module _ {d : ℕ} {table : List ℕ} {desks : ℕ} {tell : Store} (begun : acce
 
   -- ---- an insert that looks at the 512 places alone: what is owed to desks with fewer than eight rows is kept for them
 
-  pub no-insert-takes-what-is-owed : (past : List Turn) (t : Turn) → proper d desks t ≡ true → promised ≤ heldBy tell (t .desk) past → heldBy tell (t .desk) past < mostHeld
+  pub no-insert-takes-what-is-owed : (past : List Turn) (t : Turn) → proper d desks t ≡ true → promised ≤ heldBy tell (t .desk) past
+      → heldBy tell (t .desk) past < mostHeld
       → usedBy tell desks past + owedBy tell desks past ≡ mostPlaces → tell past t ≡ record { answer = Refused NoRoom; list = t .list }
   no-insert-takes-what-is-owed past t p lo hi full =
       let ten = keeps .no-room past t .1 (p, lo, hi, full) in
@@ -234,7 +243,8 @@ module _ {d : ℕ} {table : List ℕ} {desks : ℕ} {tell : Store} (begun : acce
   unfolding serve decided properCall
   no-look-shows-the-class-list past k n list h l = answered-alone past k (Ask (Look n)) list h refl ∙ rw (lt-leb (length (seen k past)) n l)
 
-  pub no-desk-tells-on-another : (past past′ : List Turn) (t : Turn) → properCall d (t .call) ≡ false → history tell (t .desk) past ≡ history tell (t .desk) past′
+  pub no-desk-tells-on-another : (past past′ : List Turn) (t : Turn) → properCall d (t .call) ≡ false
+      → history tell (t .desk) past ≡ history tell (t .desk) past′
       → tell past t ≡ tell past′ t
   no-desk-tells-on-another past past′ t off same =
       told-alone past t off ∙ ap (λ (h : List Call). alone d table desks h t) same ∙ sym (told-alone past′ t off)

@@ -199,7 +199,8 @@ module _ (d : ℕ) (view : List ℕ) where
         | inr t ↦ t
         | inl z ↦
             let q = restrict ms n p i v fits (met .1) (over .1 .pairing) (over .1 .busy) z e in
-            absurd (none i (omega (arith, at-less p i v e, over .1 .pairing .fits)) (omega (arith, q .2, met .2, rank-bound d (mask (set ms i true) view) (q .0) (q .1))))
+            absurd
+            (none i (omega (arith, at-less p i v e, over .1 .pairing .fits)) (omega (arith, q .2, met .2, rank-bound d (mask (set ms i true) view) (q .0) (q .1))))
       ]
 
       above : rank d view ≤ ρ ms

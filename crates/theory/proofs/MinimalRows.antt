@@ -88,7 +88,8 @@ after-in view before (r ∷ rows) x e f m =
         → (x ≡ r) ⊎ List·Memᴰ x rows → List·Memᴰ x (pick (b ∷ firstsAfter view (r ∷ before) rows) (r ∷ rows))
     go rec (yes s) true g k = List·Memᴰ·head s
     go rec (yes s) false g k =
-        absurd (not-both (and-both (minimal view r) (not (among r before)) (ap (minimal view) (sym s) ∙ e) (false-not (among r before) (ap (λ (y : ℕ). among y before) (sym s) ∙ f))) g)
+        absurd
+        (not-both (and-both (minimal view r) (not (among r before)) (ap (minimal view) (sym s) ∙ e) (false-not (among r before) (ap (λ (y : ℕ). among y before) (sym s) ∙ f))) g)
     go rec (no n) b g (inl s) = absurd (n s)
     go rec (no n) true g (inr k) = List·Memᴰ·tail (rec n k)
     go rec (no n) false g (inr k) = rec n k
@@ -106,7 +107,8 @@ after-out view before (r ∷ rows) x m = go (λ k. after-out view (r ∷ before)
     later (e, f) = (e, is-false (among x before) (λ g. not-both (or-right (eqb x r) (among x before) g) f))
 
     this : (minimal view r && not (among r before)) ≡ true → x ≡ r → Fresh view before x
-    this g s = (ap (minimal view) s ∙ and-left (minimal view r) (not (among r before)) g, ap (λ (y : ℕ). among y before) s ∙ not-true (among r before) (and-right (minimal view r) (not (among r before)) g))
+    this g s =
+        (ap (minimal view) s ∙ and-left (minimal view r) (not (among r before)) g, ap (λ (y : ℕ). among y before) s ∙ not-true (among r before) (and-right (minimal view r) (not (among r before)) g))
 
     go : (List·Memᴰ x (pick (firstsAfter view (r ∷ before) rows) rows) → Fresh view (r ∷ before) x) → (b : Bool)
         → (minimal view r && not (among r before)) ≡ b

@@ -230,10 +230,12 @@ module _ (d : ℕ) (view : List ℕ) where
           )
 
           size-listed : size (met .0) ≤ size (rowsAt (met .0) (is ++ x ∷ []))
-          size-listed = listed-size (is ++ x ∷ []) (met .0) (pairing-whole d view (met .0) (set hs x true) (met .1)) (λ i v e. elim (mark-cases hs x i (pairing-marked d view (met .0) (set hs x true) (met .1) i v e)) [
-            | inl s ↦ Memᴰ·append-right is (List·Memᴰ·head s)
-            | inr m ↦ let k = mated-out (T .mates) i m in Memᴰ·append-left (x ∷ []) (T .listed i (k .0) (k .1))
-          ])
+          size-listed =
+              listed-size (is ++ x ∷ []) (met .0) (pairing-whole d view (met .0) (set hs x true) (met .1))
+              (λ i v e. elim (mark-cases hs x i (pairing-marked d view (met .0) (set hs x true) (met .1) i v e)) [
+                | inl s ↦ Memᴰ·append-right is (List·Memᴰ·head s)
+                | inr m ↦ let k = mated-out (T .mates) i m in Memᴰ·append-left (x ∷ []) (T .listed i (k .0) (k .1))
+              ])
 
       same-rank : rank d (pick (set ms x true) view) ≤ rank d (pick ms view)
       same-rank = elim (decLt (rank d (mask ms view)) (rank d (mask (set ms x true) view))) [

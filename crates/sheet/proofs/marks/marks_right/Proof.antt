@@ -34,7 +34,10 @@ subset-requires c κs = search needs
 returns : tie.Need-returns Inv-loop μ-loop
 returns c =
     let a = c .before .before .before .before .before .before .before .args in
-    marked-wrong (a .desks) (a .rows) (a .marks .now) (c .before .before .before .before .before .loop .next) (c .before .before .may-hide .result) (c .before .before .before .before .loop-test .taken) (c .before .before .before .before .before .before .shared-slice-known .given (c .before .before .before .before .before .loop .next) .fits) (c .before .before .may-hide .ensures)
+    marked-wrong (a .desks) (a .rows) (a .marks .now) (c .before .before .before .before .before .loop .next) (c .before .before .may-hide .result)
+    (c .before .before .before .before .loop-test .taken)
+    (c .before .before .before .before .before .before .shared-slice-known .given (c .before .before .before .before .before .loop .next) .fits)
+    (c .before .before .may-hide .ensures)
     (sym (c .before .subset .ensures) ∙ not-true (c .before .subset .result) (c .if1 .taken))
 
 add-next : tie.Need-add-next Inv-loop μ-loop
@@ -45,7 +48,8 @@ loop-less c = search needs
 
 loop-again : tie.Need-loop-again Inv-loop μ-loop
 loop-again c =
-    simp unary-clauses (marked-more (c .before .before .before .before .before .loop .inv) (c .before .before .may-hide .result) (c .before .before .may-hide .ensures) (sym (c .before .subset .ensures) ∙ not-false (c .before .subset .result) (c .if1 .left)))
+    simp unary-clauses
+    (marked-more (c .before .before .before .before .before .loop .inv) (c .before .before .may-hide .result) (c .before .before .may-hide .ensures) (sym (c .before .subset .ensures) ∙ not-false (c .before .subset .result) (c .if1 .left)))
 
 returns-2 : tie.Need-returns-2 Inv-loop μ-loop
 returns-2 c = marked-all (c .before .loop .inv) (c .loop-test .left)

@@ -30,7 +30,8 @@ all-requires c κs = search needs
 returns-3 : tie.Need-returns-3
 returns-3 c =
     let a = c .before .before .before .before .args in
-    may-first (a .desks) (a .rows) (a .word) (c .all .result) (a .rows - a .word % markWords * wordBits) (c .all .ensures) (c .before .before .before .if1 .left) (omega (arith, c .before .before .if2 .left)) (λ v h l. omega arith)
+    may-first (a .desks) (a .rows) (a .word) (c .all .result) (a .rows - a .word % markWords * wordBits) (c .all .ensures)
+    (c .before .before .before .if1 .left) (omega (arith, c .before .before .if2 .left)) (λ v h l. omega arith)
 
 all-requires-2 : tie.Need-all-requires-2
 all-requires-2 c κs = search needs
@@ -38,7 +39,8 @@ all-requires-2 c κs = search needs
 returns-4 : tie.Need-returns-4
 returns-4 c =
     let a = c .before .before .before .before .args in
-    may-first (a .desks) (a .rows) (a .word) (c .all2 .result) wordBits (c .all2 .ensures) (c .before .before .before .if1 .left) (omega (arith, c .before .before .if2 .left, c .before .if3 .left)) (λ v h l. h)
+    may-first (a .desks) (a .rows) (a .word) (c .all2 .result) wordBits (c .all2 .ensures) (c .before .before .before .if1 .left)
+    (omega (arith, c .before .before .if2 .left, c .before .if3 .left)) (λ v h l. h)
 
 pub may-hide-spec : {M : Type 1} → statement M
 may-hide-spec =

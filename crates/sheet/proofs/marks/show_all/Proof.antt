@@ -41,10 +41,13 @@ loop-less c = search needs
 
 loop-again : tie.Need-loop-again Inv-loop μ-loop
 unfolding wiped
-loop-again c = (omega arith, simp unary-clauses (ap (λ (ms : List ℕ). set ms (c .before .before .args .desk * markWords + c .before .loop .next) zero) (c .before .loop .inv .1)))
+loop-again c =
+    (omega arith, simp unary-clauses (ap (λ (ms : List ℕ). set ms (c .before .before .args .desk * markWords + c .before .loop .next) zero) (c .before .loop .inv .1)))
 
 returns : tie.Need-returns Inv-loop μ-loop
-returns c = c .before .loop .inv .1 ∙ ap (wiped (c .before .before .args .marks .now) (c .before .before .args .desk * markWords)) (omega (arith, c .before .loop .inv .0))
+returns c =
+    c .before .loop .inv .1
+    ∙ ap (wiped (c .before .before .args .marks .now) (c .before .before .args .desk * markWords)) (omega (arith, c .before .loop .inv .0))
 
 pub show-all-spec : {M : Type 1} → statement M
 show-all-spec =

@@ -34,7 +34,9 @@ same-length c = tally-kept (c .before .before .before .loop .inv) (c .before .be
 returns : tie.Need-returns Inv-loop μ-loop
 returns c =
     let a = c .before .before .before .before .before .args in
-    tally-wrong (placesOf (a .d) (a .desks) (a .used) (a .sets .now) (a .owners .now)) (c .before .before .before .loop .counts) (c .before .before .before .loop .next) (c .before .before .loop-test .taken) (tally-owner (c .before .before .before .loop .inv) (c .if1 .taken)) (c .before .before .before .loop .inv .long)
+    tally-wrong (placesOf (a .d) (a .desks) (a .used) (a .sets .now) (a .owners .now)) (c .before .before .before .loop .counts)
+    (c .before .before .before .loop .next) (c .before .before .loop-test .taken) (tally-owner (c .before .before .before .loop .inv) (c .if1 .taken))
+    (c .before .before .before .loop .inv .long)
 
 mul-within : tie.Need-mul-within Inv-loop μ-loop
 mul-within c = search needs
@@ -46,20 +48,25 @@ within-requires : tie.Need-within-requires Inv-loop μ-loop
 within-requires c κs = search needs
 
 same-length-2 : tie.Need-same-length-2 Inv-loop μ-loop
-same-length-2 c = tally-kept (c .before .before .before .before .before .before .loop .inv) (c .before .before .before .before .before .before .before .before .pre .2)
+same-length-2 c =
+    tally-kept (c .before .before .before .before .before .before .loop .inv)
+    (c .before .before .before .before .before .before .before .before .pre .2)
 
 returns-2 : tie.Need-returns-2 Inv-loop μ-loop
 returns-2 c =
     let l = c .before .before .before .before .before .before .loop in
     let bad = sym (c .before .within .ensures) ∙ not-true (c .before .within .result) (c .if2 .taken) in
     let a = c .before .before .before .before .before .before .before .before .args in
-    tally-wrong (placesOf (a .d) (a .desks) (a .used) (a .sets .now) (a .owners .now)) (l .counts) (l .next) (c .before .before .before .before .before .loop-test .taken) (tally-row (l .inv) (c .before .before .before .if1 .left) bad) (l .inv .long)
+    tally-wrong (placesOf (a .d) (a .desks) (a .used) (a .sets .now) (a .owners .now)) (l .counts) (l .next)
+    (c .before .before .before .before .before .loop-test .taken) (tally-row (l .inv) (c .before .before .before .if1 .left) bad) (l .inv .long)
 
 mul-counts : tie.Need-mul-counts Inv-loop μ-loop
 mul-counts c = search needs
 
 slice-read-counts : tie.Need-slice-read-counts Inv-loop μ-loop
-slice-read-counts c = omega (arith, c .before .before .before .before .before .before .before .loop .inv .long, c .before .before .before .before .if1 .left, c .before .before .before .before .before .before .before .before .before .pre .1)
+slice-read-counts c =
+    omega
+    (arith, c .before .before .before .before .before .before .before .loop .inv .long, c .before .before .before .before .if1 .left, c .before .before .before .before .before .before .before .before .before .pre .1)
 
 add-counts : tie.Need-add-counts Inv-loop μ-loop
 add-counts c =
@@ -72,7 +79,9 @@ mul-counts-2 : tie.Need-mul-counts-2 Inv-loop μ-loop
 mul-counts-2 c = search needs
 
 slice-write-counts : tie.Need-slice-write-counts Inv-loop μ-loop
-slice-write-counts c = omega (arith, c .before .before .before .before .before .before .before .loop .inv .long, c .before .before .before .before .if1 .left, c .before .before .before .before .before .before .before .before .before .pre .1)
+slice-write-counts c =
+    omega
+    (arith, c .before .before .before .before .before .before .before .loop .inv .long, c .before .before .before .before .if1 .left, c .before .before .before .before .before .before .before .before .before .pre .1)
 
 add-next : tie.Need-add-next Inv-loop μ-loop
 add-next c = search needs
@@ -84,7 +93,8 @@ loop-again : tie.Need-loop-again Inv-loop μ-loop
 loop-again c =
     let l = c .before .before .before .before .before .before .before .loop in
     let right = sym (c .before .before .within .ensures) ∙ not-false (c .before .before .within .result) (c .before .if2 .left) in
-    simp unary-clauses (tally-more (l .inv) (c .before .before .before .before .before .before .loop-test .taken) (c .before .before .before .before .if1 .left) (c .before .before .before .before .before .before .before .before .before .pre .1) right)
+    simp unary-clauses
+    (tally-more (l .inv) (c .before .before .before .before .before .before .loop-test .taken) (c .before .before .before .before .if1 .left) (c .before .before .before .before .before .before .before .before .before .pre .1) right)
 
 rest-empty-requires : tie.Need-rest-empty-requires Inv-loop μ-loop
 rest-empty-requires c κs = search needs

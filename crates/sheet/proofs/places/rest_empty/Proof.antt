@@ -32,7 +32,9 @@ element-copy-out-if2 : tie.Need-element-copy-out-if2 Inv-loop μ-loop
 element-copy-out-if2 c = search needs
 
 returns-2 : tie.Need-returns-2 Inv-loop μ-loop
-returns-2 c = spare-set (c .before .before .before .before .before .loop .inv) (c .before .before .if1 .left) (c .if2 .taken) (c .before .before .before .before .loop-test .taken)
+returns-2 c =
+    spare-set (c .before .before .before .before .before .loop .inv) (c .before .before .if1 .left) (c .if2 .taken)
+    (c .before .before .before .before .loop-test .taken)
 
 add-next : tie.Need-add-next Inv-loop μ-loop
 add-next c = search needs

@@ -86,7 +86,8 @@ returns c =
     let l = c .before .loop in
     let a = c .before .before .before .before .args in
     subst (λ (n : ℕ). ClosedUp (a .desk) (a .from) (a .upto) (a .sets .now) (a .owners .now) n (l .left) (l .sets) (l .owners))
-    (omega (arith, l .inv .0, c .loop-test .left)) (passing-done (l .inv .1) (c .before .before .before .before .pre .1) (c .before .before .before .before .pre .2))
+    (omega (arith, l .inv .0, c .loop-test .left))
+    (passing-done (l .inv .1) (c .before .before .before .before .pre .1) (c .before .before .before .before .pre .2))
 
 pub close-up-spec : {M : Type 1} → statement M
 close-up-spec =

@@ -18,7 +18,9 @@ abbrev μ-loop : tie.MeasureT-loop
 μ-loop left sets₀ owners₀ next₀ sets owners next = mostPlaces - next
 
 loop-holds : tie.Need-loop-holds Inv-loop μ-loop
-loop-holds c = let a = c .args in (omega arith, c .pre .0, emptying-start (a .left) (a .sets .now), emptying-start (a .left) (a .owners .now), c .pre .1, c .pre .2)
+loop-holds c =
+    let a = c .args in
+    (omega arith, c .pre .0, emptying-start (a .left) (a .sets .now), emptying-start (a .left) (a .owners .now), c .pre .1, c .pre .2)
 
 mul-sets : tie.Need-mul-sets Inv-loop μ-loop
 mul-sets c = search needs

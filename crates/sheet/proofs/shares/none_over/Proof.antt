@@ -57,7 +57,8 @@ loop-again c =
     (omega arith, simp unary-clauses (and-both (allTo (fits (a .counts .now)) (l .next)) (fits (a .counts .now) (l .next)) (l .inv .1) here))
 
 returns-2 : tie.Need-returns-2 Inv-loop μ-loop
-returns-2 c = sym (ap (allTo (fits (c .before .before .args .counts .now))) (omega (arith, c .before .loop .inv .0, c .loop-test .left)) ∙ c .before .loop .inv .1)
+returns-2 c =
+    sym (ap (allTo (fits (c .before .before .args .counts .now))) (omega (arith, c .before .loop .inv .0, c .loop-test .left)) ∙ c .before .loop .inv .1)
 
 pub none-over-spec : {M : Type 1} → statement M
 none-over-spec =

@@ -19,7 +19,8 @@ sheetAt e = sheetOf (e .args .d) (e .args .rows) (e .args .desks) (e .args .used
 
 -- where the first test was passed
 shape-at : (c : tie.Else1) → shaped (sheetAt (c .before .before .before)) ≡ true
-shape-at c = sym (shape-same (sheetAt (c .before .before .before))) ∙ sym (c .before .shaped .ensures) ∙ not-false (c .before .shaped .result) (c .if1 .left)
+shape-at c =
+    sym (shape-same (sheetAt (c .before .before .before))) ∙ sym (c .before .shaped .ensures) ∙ not-false (c .before .shaped .result) (c .if1 .left)
 
 shaped-requires : tie.Need-shaped-requires
 shaped-requires c κs = search needs
@@ -31,37 +32,49 @@ returns c =
     (sym (shape-same (sheetAt e)) ∙ sym (c .before .shaped .ensures) ∙ not-true (c .before .shaped .result) (c .if1 .taken))
 
 go-over-requires : tie.Need-go-over-requires
-go-over-requires c κs = let few = shape-few (sheetAt (c .before .before .before .before)) (shape-at (c .before)) in (few .0, few .1, c .before .before .before .before .pre)
+go-over-requires c κs =
+    let few = shape-few (sheetAt (c .before .before .before .before)) (shape-at (c .before)) in
+    (few .0, few .1, c .before .before .before .before .pre)
 
 same-length : tie.Need-same-length
 same-length c = search needs
 
 returns-2 : tie.Need-returns-2
-returns-2 c = check-places (shape-at (c .before .before .before .before .before)) (places-same (c .before .before .before .go-over .ensures)) (not-true (c .before .before .before .go-over .result) (c .if2 .taken))
+returns-2 c =
+    check-places (shape-at (c .before .before .before .before .before)) (places-same (c .before .before .before .go-over .ensures))
+    (not-true (c .before .before .before .go-over .result) (c .if2 .taken))
 
 none-over-requires : tie.Need-none-over-requires
-none-over-requires c κs = (shape-few (sheetAt (c .before .before .before .before .before .before .before .before .before)) (shape-at (c .before .before .before .before .before .before)) .1, c .before .before .before .before .go-over .ensures .long)
+none-over-requires c κs =
+    (shape-few (sheetAt (c .before .before .before .before .before .before .before .before .before)) (shape-at (c .before .before .before .before .before .before)) .1, c .before .before .before .before .go-over .ensures .long)
 
 same-length-2 : tie.Need-same-length-2
 same-length-2 c = search needs
 
 returns-3 : tie.Need-returns-3
 returns-3 c =
-    check-over (shape-at (c .before .before .before .before .before .before .before .before)) (places-same (c .before .before .before .before .before .before .go-over .ensures)) (not-false (c .before .before .before .before .before .before .go-over .result) (c .before .before .before .if2 .left))
+    check-over (shape-at (c .before .before .before .before .before .before .before .before))
+    (places-same (c .before .before .before .before .before .before .go-over .ensures))
+    (not-false (c .before .before .before .before .before .before .go-over .result) (c .before .before .before .if2 .left))
     (sym (c .before .none-over .ensures) ∙ not-true (c .before .none-over .result) (c .if3 .taken))
 
 owed-requires : tie.Need-owed-requires
-owed-requires c κs = (shape-few (sheetAt (c .before .before .before .before .before .before .before .before .before .before .before .before)) (shape-at (c .before .before .before .before .before .before .before .before .before)) .1, c .before .before .before .before .before .before .before .go-over .ensures .long)
+owed-requires c κs =
+    (shape-few (sheetAt (c .before .before .before .before .before .before .before .before .before .before .before .before)) (shape-at (c .before .before .before .before .before .before .before .before .before)) .1, c .before .before .before .before .before .before .before .go-over .ensures .long)
 
 add-if4 : tie.Need-add-if4
-add-if4 c = search (needs, shape-few (sheetAt (c .before .before .before .before .before .before .before .before .before .before .before .before .before)) (shape-at (c .before .before .before .before .before .before .before .before .before .before)) .0, c .owed .ensures .1)
+add-if4 c =
+    search
+    (needs, shape-few (sheetAt (c .before .before .before .before .before .before .before .before .before .before .before .before .before)) (shape-at (c .before .before .before .before .before .before .before .before .before .before)) .0, c .owed .ensures .1)
 
 same-length-3 : tie.Need-same-length-3
 same-length-3 c = search needs
 
 returns-4 : tie.Need-returns-4
 returns-4 c =
-    check-owed (shape-at (c .before .before .before .before .before .before .before .before .before .before .before)) (places-same (c .before .before .before .before .before .before .before .before .before .go-over .ensures)) (not-false (c .before .before .before .before .before .before .before .before .before .go-over .result) (c .before .before .before .before .before .before .if2 .left))
+    check-owed (shape-at (c .before .before .before .before .before .before .before .before .before .before .before))
+    (places-same (c .before .before .before .before .before .before .before .before .before .go-over .ensures))
+    (not-false (c .before .before .before .before .before .before .before .before .before .go-over .result) (c .before .before .before .before .before .before .if2 .left))
     (sym (c .before .before .before .before .none-over .ensures) ∙ not-false (c .before .before .before .before .none-over .result) (c .before .before .before .if3 .left)) (c .before .owed .result) (c .before .owed .ensures .0) (c .if4 .taken)
 
 marks-right-requires : tie.Need-marks-right-requires
@@ -72,7 +85,9 @@ same-length-4 c = search needs
 
 returns-5 : tie.Need-returns-5
 returns-5 c =
-    check-marks (shape-at (c .before .before .before .before .before .before .before .before .before .before .before .before .before)) (places-same (c .before .before .before .before .before .before .before .before .before .before .before .go-over .ensures)) (not-false (c .before .before .before .before .before .before .before .before .before .before .before .go-over .result) (c .before .before .before .before .before .before .before .before .if2 .left))
+    check-marks (shape-at (c .before .before .before .before .before .before .before .before .before .before .before .before .before))
+    (places-same (c .before .before .before .before .before .before .before .before .before .before .before .go-over .ensures))
+    (not-false (c .before .before .before .before .before .before .before .before .before .before .before .go-over .result) (c .before .before .before .before .before .before .before .before .if2 .left))
     (sym (c .before .before .before .before .before .before .none-over .ensures) ∙ not-false (c .before .before .before .before .before .before .none-over .result) (c .before .before .before .before .before .if3 .left)) (c .before .before .before .owed .result) (c .before .before .before .owed .ensures .0) (c .before .before .if4 .left) (c .marks-right .result) (c .marks-right .ensures ∙ marks-same (sheetAt (c .before .before .before .before .before .before .before .before .before .before .before .before .before .before .before .before)))
 
 pub check-spec : {M : Type 1} → statement M

@@ -15,19 +15,23 @@ returns c = simp (sym (c .before .within .ensures) ∙ not-true (c .before .with
 
 returns-2 : tie.Need-returns-2
 unfolding decided
-returns-2 c = simp (sym (c .before .before .within .ensures) ∙ not-false (c .before .before .within .result) (c .before .if1 .left), le-leb _ _ (c .if2 .taken))
+returns-2 c =
+    simp (sym (c .before .before .within .ensures) ∙ not-false (c .before .before .within .result) (c .before .if1 .left), le-leb _ _ (c .if2 .taken))
 
 returns-3 : tie.Need-returns-3
 unfolding decided
-returns-3 c = simp (sym (c .before .before .before .within .ensures) ∙ not-false (c .before .before .before .within .result) (c .before .before .if1 .left), lt-leb _ _ (c .before .if2 .left), lt-leb _ _ (c .if3 .taken))
+returns-3 c =
+    simp (sym (c .before .before .before .within .ensures) ∙ not-false (c .before .before .before .within .result) (c .before .before .if1 .left), lt-leb _ _ (c .before .if2 .left), lt-leb _ _ (c .if3 .taken))
 
 returns-4 : tie.Need-returns-4
 unfolding decided
-returns-4 c = simp (sym (c .before .before .before .before .within .ensures) ∙ not-false (c .before .before .before .before .within .result) (c .before .before .before .if1 .left), lt-leb _ _ (c .before .before .if2 .left), le-leb _ _ (c .before .if3 .left), c .if4 .taken)
+returns-4 c =
+    simp (sym (c .before .before .before .before .within .ensures) ∙ not-false (c .before .before .before .before .within .result) (c .before .before .before .if1 .left), lt-leb _ _ (c .before .before .if2 .left), le-leb _ _ (c .before .if3 .left), c .if4 .taken)
 
 returns-5 : tie.Need-returns-5
 unfolding decided
-returns-5 c = simp (sym (c .before .before .before .before .within .ensures) ∙ not-false (c .before .before .before .before .within .result) (c .before .before .before .if1 .left), lt-leb _ _ (c .before .before .if2 .left), le-leb _ _ (c .before .if3 .left), c .if4 .left)
+returns-5 c =
+    simp (sym (c .before .before .before .before .within .ensures) ∙ not-false (c .before .before .before .before .within .result) (c .before .before .before .if1 .left), lt-leb _ _ (c .before .before .if2 .left), le-leb _ _ (c .before .if3 .left), c .if4 .left)
 
 pub insert-spec : {M : Type 1} → statement M
 insert-spec = tie.close (tie.spec within-requires returns returns-2 returns-3 returns-4 returns-5)

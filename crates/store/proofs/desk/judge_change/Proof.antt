@@ -52,13 +52,18 @@ enum-told : tie.Need-enum-told
 enum-told c = search needs
 
 returns : tie.Need-returns
-returns c = rw (c .before .before .before .before .before .change .given .1 ∙ ap Delete (c .before .before .target .given .1)) (c .delete-table .ensures)
+returns c =
+    rw (c .before .before .before .before .before .change .given .1 ∙ ap Delete (c .before .before .target .given .1)) (c .delete-table .ensures)
 
 returns-2 : tie.Need-returns-2
-returns-2 c = rw (c .before .before .before .before .before .before .change .given .1 ∙ ap Delete (c .before .before .before .target2 .given .1)) (judged-take (c .before .before .before .before .before .before .before .before .before .pre) _ _ (c .delete-own .ensures))
+returns-2 c =
+    rw (c .before .before .before .before .before .before .change .given .1 ∙ ap Delete (c .before .before .before .target2 .given .1))
+    (judged-take (c .before .before .before .before .before .before .before .before .before .pre) _ _ (c .delete-own .ensures))
 
 returns-3 : tie.Need-returns-3
-returns-3 c = rw (c .before .before .before .before .before .change2 .given .1) (judged-insert (c .before .before .before .before .before .before .before .before .pre) _ _ (c .before .before .owed .ensures .0) _ (c .insert .ensures))
+returns-3 c =
+    rw (c .before .before .before .before .before .change2 .given .1)
+    (judged-insert (c .before .before .before .before .before .before .before .before .pre) _ _ (c .before .before .owed .ensures .0) _ (c .insert .ensures))
 
 returns-4 : tie.Need-returns-4
 unfolding decided

@@ -21,7 +21,8 @@ slice-aggregate-gather : tie.Need-slice-aggregate-gather
 slice-aggregate-gather c = search needs
 
 gather-requires : tie.Need-gather-requires
-gather-requires c κs = let L = limits _ _ _ _ _ (c .before .before .before .before .before .before .pre) in (L .desk, L .table-rows, L .used, L .share, refl)
+gather-requires c κs =
+    let L = limits _ _ _ _ _ (c .before .before .before .before .before .before .pre) in (L .desk, L .table-rows, L .used, L .share, refl)
 
 array-share-prefix-rows : tie.Need-array-share-prefix-rows
 array-share-prefix-rows c = search needs
@@ -30,7 +31,8 @@ slice-aggregate-answer-question : tie.Need-slice-aggregate-answer-question
 slice-aggregate-answer-question c = let seen = c .before .before .gather .ensures in seen .count ∙ ap length (sym (seen .is))
 
 mul-answer-question : tie.Need-mul-answer-question
-mul-answer-question c = record { fits = omega (arith, limits _ _ _ _ _ (c .before .before .before .before .before .before .before .before .before .pre) .desk) }
+mul-answer-question c =
+    record { fits = omega (arith, limits _ _ _ _ _ (c .before .before .before .before .before .before .before .before .before .pre) .desk) }
 
 element-copy-out-answer-question : tie.Need-element-copy-out-answer-question
 element-copy-out-answer-question c = limits _ _ _ _ _ (c .before .before .before .before .before .before .before .before .before .pre) .desk
@@ -41,7 +43,9 @@ answer-question-requires c κs =
     (rw (seen .is) (rw (sym (seen .count)) (seen .most)), rw (seen .is) (in-column _ _ _ _ _ (c .before .before .before .before .before .before .before .before .before .before .before .pre) refl))
 
 returns : tie.Need-returns
-returns c = let e = c .before .before .before .before .before .before in served-change (e .pre) (e .args .list .now) (e .args .call) _ (c .before .before .call .given .1) _ (c .judge-change .ensures)
+returns c =
+    let e = c .before .before .before .before .before .before in
+    served-change (e .pre) (e .args .list .now) (e .args .call) _ (c .before .before .call .given .1) _ (c .judge-change .ensures)
 
 same-length : tie.Need-same-length
 same-length c = search needs
@@ -49,7 +53,9 @@ same-length c = search needs
 returns-2 : tie.Need-returns-2
 returns-2 c =
     let e = c .before .before .before .before .before .before .before .before .before .before .before .before .before .before in
-    served-question (e .pre) (e .args .list .now) (e .args .call) _ (c .before .before .before .before .before .before .before .before .before .before .call2 .given .1) _ _ (c .before .before .before .before .before .before .before .gather .ensures) _ _ (c .before .before .answer-question .ensures)
+    served-question (e .pre) (e .args .list .now) (e .args .call) _
+    (c .before .before .before .before .before .before .before .before .before .before .call2 .given .1) _ _
+    (c .before .before .before .before .before .before .before .gather .ensures) _ _ (c .before .before .answer-question .ensures)
 
 pub serve-spec : {M : Type 1} → statement M
 serve-spec =

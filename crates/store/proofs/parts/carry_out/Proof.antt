@@ -12,7 +12,8 @@ use Rattle.store.proofs.parts.carry_out.Tie as tie
 
 -- the sheet that the arguments are parts of
 abbrev sheetAt : tie.Start → Sheet
-sheetAt e = sheetOf (e .args .sheetd) (e .args .rows) (e .args .desks) (e .args .used) (e .args .marks .now) (e .args .sets .now) (e .args .owners .now)
+sheetAt e =
+    sheetOf (e .args .sheetd) (e .args .rows) (e .args .desks) (e .args .used) (e .args .marks .now) (e .args .sets .now) (e .args .owners .now)
 
 -- once the answer accepts
 accepted-at : (c : tie.Else1) → accepted (c .before .before .before .before .respond .result) ≡ true
@@ -30,7 +31,8 @@ same-length c = search needs
 returns : tie.Need-returns
 returns c =
     let e = c .before .before .before .before .before .before .before .before .before .before .before in
-    carried-refused (e .args .d) (e .args .table .now) (sheetAt e) (e .args .desk) (e .args .call) (e .args .list .now) _ _ (c .before .before .before .before .respond .ensures)
+    carried-refused (e .args .d) (e .args .table .now) (sheetAt e) (e .args .desk) (e .args .call) (e .args .list .now) _ _
+    (c .before .before .before .before .respond .ensures)
     (sym (c .before .accepted .ensures) ∙ not-true (c .before .accepted .result) (c .if1 .taken))
 
 enum-known-call : tie.Need-enum-known-call
@@ -45,13 +47,15 @@ same-length-2 c = search needs
 returns-2 : tie.Need-returns-2
 returns-2 c =
     let e = c .before .before .before .before .before .before .before .before .before .before .before .before .before in
-    carried-question (e .args .d) (e .args .table .now) (sheetAt e) (e .args .desk) (e .args .call) (e .args .list .now) _ _ (c .before .before .before .before .before .before .respond .ensures)
+    carried-question (e .args .d) (e .args .table .now) (sheetAt e) (e .args .desk) (e .args .call) (e .args .list .now) _ _
+    (c .before .before .before .before .before .before .respond .ensures)
     (accepted-at (c .before .before)) _ (c .enum-told .given .1)
 
 make-requires : tie.Need-make-requires
 make-requires c κs =
     let e = c .before .before .before .before .before .before .before .before .before .before .before .before .before .before .before .before .before in
-    room-in-parts (sheetAt e) (e .args .desk) (c .before .before .before .before .call .given .1) (c .before .before .before .before .before .before .before .before .before .before .respond .ensures .room (accepted-at (c .before .before .before .before .before .before)))
+    room-in-parts (sheetAt e) (e .args .desk) (c .before .before .before .before .call .given .1)
+    (c .before .before .before .before .before .before .before .before .before .before .respond .ensures .room (accepted-at (c .before .before .before .before .before .before)))
 
 same-length-3 : tie.Need-same-length-3
 same-length-3 c = search needs
@@ -59,8 +63,10 @@ same-length-3 c = search needs
 returns-3 : tie.Need-returns-3
 returns-3 c =
     let e = c .before .before .before .before .before .before .before .before .before .before .before .before .before .before .before .before .before .before in
-    carried-accepted (e .args .d) (e .args .table .now) (sheetAt e) (e .args .desk) (e .args .call) (e .args .list .now) _ _ (c .before .before .before .before .before .before .before .before .before .before .before .respond .ensures)
-    (accepted-at (c .before .before .before .before .before .before .before)) _ (rw (c .before .before .before .before .before .call .given .1) (c .make .ensures (e .args .sheetd) (e .args .rows) (e .args .desks)))
+    carried-accepted (e .args .d) (e .args .table .now) (sheetAt e) (e .args .desk) (e .args .call) (e .args .list .now) _ _
+    (c .before .before .before .before .before .before .before .before .before .before .before .respond .ensures)
+    (accepted-at (c .before .before .before .before .before .before .before)) _
+    (rw (c .before .before .before .before .before .call .given .1) (c .make .ensures (e .args .sheetd) (e .args .rows) (e .args .desks)))
 
 pub carry-out-spec : {M : Type 1} → statement M
 carry-out-spec =

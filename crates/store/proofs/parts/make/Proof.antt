@@ -19,16 +19,20 @@ enum-known-target : tie.Need-enum-known-target
 enum-known-target c = search needs
 
 hide-requires : tie.Need-hide-requires
-hide-requires c κs = rw (c .before .before .before .before .before .change .given .1 ∙ ap Delete (c .before .before .target .given .1)) at (c .before .before .before .before .before .before .before .pre)
+hide-requires c κs =
+    rw (c .before .before .before .before .before .change .given .1 ∙ ap Delete (c .before .before .target .given .1)) at
+    (c .before .before .before .before .before .before .before .pre)
 
 enum-known-target-2 : tie.Need-enum-known-target-2
 enum-known-target-2 c = search needs
 
 add-take-out : tie.Need-add-take-out
-add-take-out c = let p = rw (c .before .before .before .before .change .given .1 ∙ ap Delete (c .before .target2 .given .1)) at (c .before .before .before .before .before .before .pre) in record { fits = omega (arith, p .1) }
+add-take-out c =
+    let p = rw (c .before .before .before .before .change .given .1 ∙ ap Delete (c .before .target2 .given .1)) at (c .before .before .before .before .before .before .pre) in record { fits = omega (arith, p .1) }
 
 take-out-requires : tie.Need-take-out-requires
-take-out-requires c κs = let p = rw (c .before .before .before .before .before .before .change .given .1 ∙ ap Delete (c .before .before .before .target2 .given .1)) at (c .before .before .before .before .before .before .before .before .pre) in (p .0, search needs, search needs)
+take-out-requires c κs =
+    let p = rw (c .before .before .before .before .before .before .change .given .1 ∙ ap Delete (c .before .before .before .target2 .given .1)) at (c .before .before .before .before .before .before .before .before .pre) in (p .0, search needs, search needs)
 
 enum-known-change-2 : tie.Need-enum-known-change-2
 enum-known-change-2 c = search needs
@@ -55,7 +59,9 @@ show-all-requires : tie.Need-show-all-requires
 show-all-requires c κs = let p = rw (c .before .enum-told .given .1) at (c .before .before .before .pre) in p .1
 
 take-out-requires-2 : tie.Need-take-out-requires-2
-take-out-requires-2 c κs = let p = rw (c .before .before .before .before .enum-told .given .1) at (c .before .before .before .before .before .before .pre) in (p .0, search needs, search needs)
+take-out-requires-2 c κs =
+    let p = rw (c .before .before .before .before .enum-told .given .1) at (c .before .before .before .before .before .before .pre) in
+    (p .0, search needs, search needs)
 
 returns : tie.Need-returns
 unfolding changed
@@ -68,7 +74,8 @@ returns-2 : tie.Need-returns-2
 unfolding changed
 returns-2 c =
     let e = c .before .before .before .before .before .before .before .before .before .args in
-    λ d rows desks. rw (c .before .before .before .before .before .before .before .change .given .1 ∙ ap Delete (c .before .before .before .before .target2 .given .1))
+    λ d rows desks. rw
+    (c .before .before .before .before .before .before .before .change .given .1 ∙ ap Delete (c .before .before .before .before .target2 .given .1))
     (placed-out (sheetOf d rows desks (e .used) (e .marks .now) (e .sets .now) (e .owners .now)) (e .desk) _ _ _ _ _ _ _
     (simp unary-clauses at (c .take-out .ensures)) refl)
 

@@ -18,11 +18,15 @@ use Rattle.store.proofs.parts.respond.Tie as tie
 
 -- the sheet that the arguments are parts of
 abbrev sheetAt : tie.Start → Sheet
-sheetAt e = sheetOf (e .args .sheetd) (e .args .rows) (e .args .desks) (e .args .used) (e .args .marks .now) (e .args .sets .now) (e .args .owners .now)
+sheetAt e =
+    sheetOf (e .args .sheetd) (e .args .rows) (e .args .desks) (e .args .used) (e .args .marks .now) (e .args .sets .now) (e .args .owners .now)
 
 -- once the table is right
-right-at : (c : tie.Else1) → let e = c .before .before .before .before .before in accepted (decided Refused (tableCases mostRows (e .args .d) (e .args .table .now)) Done) ≡ true
-right-at c = ap accepted (sym (c .before .before .judge .ensures)) ∙ sym (c .before .accepted .ensures) ∙ not-false (c .before .accepted .result) (c .if1 .left)
+right-at : (c : tie.Else1)
+    → let e = c .before .before .before .before .before in accepted (decided Refused (tableCases mostRows (e .args .d) (e .args .table .now)) Done) ≡ true
+right-at c =
+    ap accepted (sym (c .before .before .judge .ensures)) ∙ sym (c .before .accepted .ensures)
+    ∙ not-false (c .before .accepted .result) (c .if1 .left)
 
 -- and the sheet is sound
 sound-at : (c : tie.Else2) → c .before .before .check .result ≡ true
@@ -30,8 +34,12 @@ sound-at c = not-false (c .before .before .check .result) (c .if2 .left)
 
 -- and the desk is there
 known-at : (c : tie.Else3) → let e = c .before .before .before .before .before .before .before .before .before .before .before .before in
-    accepted (decided Refused (deskCases (e .args .d) (length (e .args .table .now)) (e .args .sheetd) (e .args .rows) (e .args .desks) (e .args .desk)) Done) ≡ true
-known-at c = ap accepted (sym (c .before .before .known .ensures)) ∙ sym (c .before .accepted2 .ensures) ∙ not-false (c .before .accepted2 .result) (c .if3 .left)
+    accepted
+    (decided Refused (deskCases (e .args .d) (length (e .args .table .now)) (e .args .sheetd) (e .args .rows) (e .args .desks) (e .args .desk)) Done)
+    ≡ true
+known-at c =
+    ap accepted (sym (c .before .before .known .ensures)) ∙ sym (c .before .accepted2 .ensures)
+    ∙ not-false (c .before .accepted2 .result) (c .if3 .left)
 
 judge-requires : tie.Need-judge-requires
 judge-requires c κs = search needs
@@ -43,7 +51,8 @@ returns : tie.Need-returns
 returns c =
     let e = c .before .before .before .before .before in
     let wrong = ap accepted (sym (c .before .before .judge .ensures)) ∙ sym (c .before .accepted .ensures) ∙ not-true (c .before .accepted .result) (c .if1 .taken) in
-    rw (c .before .before .judge .ensures) (table-refused (e .args .d) (e .args .table .now) (sheetAt e) (e .args .desk) (e .args .call) (e .args .list .now) wrong)
+    rw (c .before .before .judge .ensures)
+    (table-refused (e .args .d) (e .args .table .now) (sheetAt e) (e .args .desk) (e .args .call) (e .args .list .now) wrong)
 
 slice-aggregate-check : tie.Need-slice-aggregate-check
 slice-aggregate-check c = search needs
@@ -54,7 +63,8 @@ check-requires c κs = search needs
 returns-2 : tie.Need-returns-2
 returns-2 c =
     let e = c .before .before .before .before .before .before .before .before .before in
-    sheet-refused (e .args .d) (e .args .table .now) (sheetAt e) (e .args .desk) (e .args .call) (e .args .list .now) (right-at (c .before .before .before .before))
+    sheet-refused (e .args .d) (e .args .table .now) (sheetAt e) (e .args .desk) (e .args .call) (e .args .list .now)
+    (right-at (c .before .before .before .before))
     (sym (c .before .before .check .ensures .right-is) ∙ not-true (c .before .before .check .result) (c .if2 .taken))
 
 known-requires : tie.Need-known-requires
@@ -73,7 +83,10 @@ returns-3 c =
 serve-requires : tie.Need-serve-requires
 serve-requires c κs =
     let e = c .before .before .before .before .before .before .before .before .before .before .before .before .before .before in
-    trusted-parts (e .args .d) (e .args .table .now) (e .args .desk) (right-at (c .before .before .before .before .before .before .before .before .before)) (c .before .before .before .before .before .before .before .check .ensures) (sound-at (c .before .before .before .before .before)) (known-at (c .before .before))
+    trusted-parts (e .args .d) (e .args .table .now) (e .args .desk)
+    (right-at (c .before .before .before .before .before .before .before .before .before))
+    (c .before .before .before .before .before .before .before .check .ensures) (sound-at (c .before .before .before .before .before))
+    (known-at (c .before .before))
 
 same-length : tie.Need-same-length
 same-length c = search needs
@@ -81,7 +94,10 @@ same-length c = search needs
 returns-4 : tie.Need-returns-4
 returns-4 c =
     let e = c .before .before .before .before .before .before .before .before .before .before .before .before .before .before .before .before .before in
-    served-responds (e .args .d) (e .args .table .now) (e .args .desk) (right-at (c .before .before .before .before .before .before .before .before .before .before .before .before)) (c .before .before .before .before .before .before .before .before .before .before .check .ensures) (sound-at (c .before .before .before .before .before .before .before .before)) (known-at (c .before .before .before .before .before))
+    served-responds (e .args .d) (e .args .table .now) (e .args .desk)
+    (right-at (c .before .before .before .before .before .before .before .before .before .before .before .before))
+    (c .before .before .before .before .before .before .before .before .before .before .check .ensures)
+    (sound-at (c .before .before .before .before .before .before .before .before)) (known-at (c .before .before .before .before .before))
     (c .before .before .serve .ensures)
 
 pub respond-spec : {M : Type 1} → statement M

@@ -84,7 +84,8 @@ loop-again-2 c =
     let e = c .before .before .before .before in
     let l = c .before .before .before .loop in (
       omega (arith, c .before .before .loop-test .taken),
-      filled-pass (owns (e .args .owners .now) (e .args .desk)) (e .args .sets .now) (e .args .start) (e .args .rows .now) (l .next) (l .n) (l .rows) (l .inv .1)
+      filled-pass (owns (e .args .owners .now) (e .args .desk)) (e .args .sets .now) (e .args .start) (e .args .rows .now) (l .next) (l .n) (l .rows)
+          (l .inv .1)
           (ne-eqb _ _ (c .if1 .left)),
     )
 

@@ -82,7 +82,8 @@ loop-again-2 c =
     let e = c .before .before .before .before .before .before in
     let l = c .before .before .before .loop in (
       omega (arith, c .before .before .loop-test .taken),
-      filled-pass (λ i. not (hides (e .args .marks .now) (e .args .desk) i)) (e .args .table .now) 0 (e .args .rows .now) (l .next) (l .n) (l .rows) (l .inv .1)
+      filled-pass (λ i. not (hides (e .args .marks .now) (e .args .desk) i)) (e .args .table .now) 0 (e .args .rows .now) (l .next) (l .n) (l .rows)
+          (l .inv .1)
           (ap not (sym (c .before .hidden .ensures)) ∙ c .if1 .left),
     )
 
