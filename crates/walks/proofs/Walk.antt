@@ -15,8 +15,10 @@ pub use prog.Wp.{Heap, Calls, Loops, WpFn, Tables}
 pub use ghost.Atoms.{Atoms, sem}
 pub use contract.Monad.{Fun, fact}
 unfoldable pub use contract.Running.{givenOf, tables, tablesOf}
-pub use types.Kit.{Given, Item, ‵, raw, _⊛_, ⋆, some, later, _$_, _∵_, !, qed, by, move, keep, drop, use1, use2, use3, split, join, pick, rewrite, fsplit, fsplit3, fjoin, fjoin3, feqL, feqI, suffices, frame, await, done, given, learn, fpick, fpack}
-pub use types.Run.{look, look-raw, init, store-raw, forget, stop, hop, fld, from, load, addr, of-opd, and-then, no-more, assigns, land, returns, enter, alloc1, alloc0, params1, pass1, pass0, free1, free0, lit}
+pub use types.Kit.{Given, Item, ‵, raw, _⊛_, ⋆, some, later, _$_, _∵_, !, qed, by, move, keep, drop, use1, use2, use3, split, join, pick, rewrite}
+pub use types.Kit.{fsplit, fsplit3, fjoin, fjoin3, feqL, feqI, suffices, frame, await, done, given, learn, fpick, fpack}
+pub use types.Run.{look, look-raw, init, store-raw, forget, stop, hop, fld, from, load, addr, of-opd, and-then, no-more, assigns, land, returns}
+pub use types.Run.{enter, alloc1, alloc0, params1, pass1, pass0, free1, free0, lit}
 pub use types.Part.{agg, whole, sub, look-in, store-in}
 pub use types.SemTy.{Body}
 pub use sound.WpLaws.{FmC, fmOf, WpFn-mono}
@@ -26,7 +28,8 @@ unfoldable pub use denote.Memory.{mem, cellAt, partOf}
 pub use denote.Plain.{uint-vals, uint-tells, uint-makes}
 pub use denote.Builtin.{usize, u64, u8}
 pub use denote.Ref.{RefT, MutRef, ptr-vals, mut-tells, NamedLft, now}
-pub use denote.Slice.{sliceVal, ShrSlice, MutSlice, finally, slice-vals, shr-slice-tells, mut-slice-tells, shr-slice-lawful, mut-slice-lawful, shr-slice-copy}
+pub use denote.Slice.{sliceVal, ShrSlice, MutSlice, finally, slice-vals, shr-slice-tells, mut-slice-tells, shr-slice-lawful, mut-slice-lawful}
+pub use denote.Slice.{shr-slice-copy}
 pub use denote.Signature.{plain, namedLft, Slot}
 pub use denote.Steps.{only, opens, closes, owned, peeks, heard, nothing}
 pub use denote.Struct.Steps.{spelt}
@@ -36,7 +39,8 @@ pub use denote.Triple.Clauses.{ensured, lasts}
 pub use denote.Triple.Entry.{Vals, onEntry}
 pub use denote.Triple.Spec.{Meets, tripleOf}
 pub use denote.Triple.Table.{entered, cited}
-pub use denote.Triple.Walked.{says, Stays, stay-ref, stay-none, stay-none-slice, gave-slice, walkOf, AllGo, goes-none, goes-none-slice, goes-gave-slice, goes-ref, Walks, ends-at, walked, walk-meets}
+pub use denote.Triple.Walked.{says, Stays, stay-ref, stay-none, stay-none-slice, gave-slice, walkOf, AllGo, goes-none, goes-none-slice}
+pub use denote.Triple.Walked.{goes-gave-slice, goes-ref, Walks, ends-at, walked, walk-meets}
 pub use denote.Exit.{yes}
 pub use types.Tokens.{lft-new, lft-end}
 pub use denote.Lend.{lends-ref, ref-back}

@@ -153,7 +153,8 @@ module _ {M : Type 1} (𝓤 : URA M) (H : Heap 𝓤) (A : Atoms 𝓤) (W : Given
       ‵ (fobs name (sheets.the-row .coded .code (back .sheet))) ∷ ‵ (fbor κ-sheet (Body (mem sheets.the-row) block offset name)) ∷
       ‵ (flft κ-sheet q-sheet) ∷ tokens ∷ ‵ (finally usize (list .name) last) ∷ ‵ TableOwn ∷ []
 
-  exits : (back : Handed) (last : List ℕ) → Said back last → length last ≡ length (list .now) → Is told.the-row (back .told) (told-values (back .told))
+  exits : (back : Handed) (last : List ℕ) → Said back last → length last ≡ length (list .now)
+      → Is told.the-row (back .told) (told-values (back .told))
       → ent 𝓤 (⋆ 𝓤 H A (Left back last)) (Post (struct.val told.the-type told-laws.the-laws (back .told)))
   exits back last said same-length is =
       qed W (Left back last) ∵
@@ -224,21 +225,26 @@ module _ {M : Type 1} (𝓤 : URA M) (H : Heap 𝓤) (A : Atoms 𝓤) (W : Given
         -- [what is handed back; the tokens; the last list; true; the table's; the cell; the open borrow; obs; auth;
         -- _11 (9); _10 (11); _9 (13); _8 (15); …; _1 (29); room for _0 (31)]
         land ! (from ! (stop !)) (init ! 13 refl (struct.lawful handed.the-type handed-laws.the-laws 𝓤 H A W .typed back _ back-is .0)) $
-        rewrite ! 13 (λ (u : Val). ‵ (fat fullShare handed-laws.mir l₉ 0 u)) (ap only (struct.tells handed.the-type handed-laws.the-laws back _ back-is)) refl $
-        assigns ! (of-opd ! (load ! (from ! (fld ! refl (stop !))) (look-in ! 13 (sub ! 1 refl (whole !))))) (from ! (hop ! (look ! 29 refl) (stop !)))
+        rewrite ! 13 (λ (u : Val). ‵ (fat fullShare handed-laws.mir l₉ 0 u))
+        (ap only (struct.tells handed.the-type handed-laws.the-laws back _ back-is)) refl $
+        assigns ! (of-opd ! (load ! (from ! (fld ! refl (stop !))) (look-in ! 13 (sub ! 1 refl (whole !)))))
+        (from ! (hop ! (look ! 29 refl) (stop !)))
         (store-raw ! 5 refl (struct.lawful sheets.the-type sheet-laws.the-laws 𝓤 H A W .typed (back .sheet) _ (sheet-is back _ back-is) .0)) $
         assigns ! (of-opd ! (load ! (from ! (fld ! refl (stop !))) (look-in ! 13 (sub ! 0 refl (whole !))))) (from ! (stop !))
         (init ! 31 refl (struct.lawful told.the-type told-laws.the-laws 𝓤 H A W .typed (back .told) _ (told-is back _ back-is) .0)) $
         -- the borrow is closed at the sheet handed back
-        owned ! sheets.the-row (Is sheets.the-row) (struct.makes sheets.the-type sheet-laws.the-plain 𝓤 H A) (back .sheet) _ (sheet-is back _ back-is) $
+        owned ! sheets.the-row (Is sheets.the-row) (struct.makes sheets.the-type sheet-laws.the-plain 𝓤 H A) (back .sheet) _ (sheet-is back _ back-is)
+        $
         move ! (6 ∷ 0 ∷ 7 ∷ 8 ∷ 9 ∷ []) $ closes ! tt sheets.the-row (back .sheet) (sheet-values (back .sheet)) block offset $
         -- [obs; the borrow; its token; what is handed back; the tokens; the last list; true; the table's; _11 (8); …; _0 (30)]
         returns ! (look ! 30 refl) $ forget ! 8 refl $ forget ! 10 refl $ forget ! 12 refl $ forget ! 14 refl $ forget ! 16 refl $ forget ! 18 refl $
         forget ! 20 refl $ forget ! 22 refl $ forget ! 24 refl $ forget ! 26 refl $ forget ! 28 refl $ forget ! 30 refl $
         move ! (30 ∷ 31 ∷ []) $ free1 ! $ move ! (28 ∷ 29 ∷ []) $ free1 ! $ move ! (26 ∷ 27 ∷ []) $ free1 ! $ move ! (24 ∷ 25 ∷ []) $ free1 ! $
         move ! (22 ∷ 23 ∷ []) $ free1 ! $ move ! (20 ∷ 21 ∷ []) $ free1 ! $ move ! (18 ∷ 19 ∷ []) $ free1 ! $ move ! (16 ∷ 17 ∷ []) $ free1 ! $
-        move ! (14 ∷ 15 ∷ []) $ free1 ! $ move ! (12 ∷ 13 ∷ []) $ free1 ! $ move ! (10 ∷ 11 ∷ []) $ free1 ! $ move ! (8 ∷ 9 ∷ []) $ free1 ! $ free0 ! $
-        keep ! (0 ∷ 1 ∷ 2 ∷ 4 ∷ 5 ∷ 7 ∷ []) $ by ! (exits back (lasting .1 .1 .1 .1 .1 .1 .0) said same-length (told-is back _ back-is))))))))))))))))))))))
+        move ! (14 ∷ 15 ∷ []) $ free1 ! $ move ! (12 ∷ 13 ∷ []) $ free1 ! $ move ! (10 ∷ 11 ∷ []) $ free1 ! $ move ! (8 ∷ 9 ∷ []) $ free1 ! $ free0 !
+        $
+        keep ! (0 ∷ 1 ∷ 2 ∷ 4 ∷ 5 ∷ 7 ∷ []) $ by !
+        (exits back (lasting .1 .1 .1 .1 .1 .1 .0) said same-length (told-is back _ back-is))))))))))))))))))))))
 
 module _ {M : Type 1} (𝓤 : URA M) (H : Heap 𝓤) (A : Atoms 𝓤) (W : Given 𝓤 H A) (at-mem : Memory → SProp 𝓤) (run : Routine → Fun 𝓤) where
   walks : (C : Calls 𝓤 H) (Λ : Loops 𝓤 H) → FmC 𝓤 H (W .laws) C → Triple 𝓤 (C #by-value) (ByValue 𝓤 H A at-mem run)
@@ -252,7 +258,8 @@ module _ {M : Type 1} (𝓤 : URA M) (H : Heap 𝓤) (A : Atoms 𝓤) (W : Given
       (mut-tells (named 0) (κs .0) sheets.the-row, (lent-table, (number, (number, (number, (number, (lent-list, tt))))))))
       (λ κs qs bounds a _ are. via 𝓤 _ (fst∗ 𝓤 _ (emp 𝓤)) (walk 𝓤 H A W at-mem run (κs .0) (κs .1 .0) (κs .1 .1 .0) (qs .0) (qs .1 .0) (qs .1 .1 .0)
       (a .0 .ptr .0) (a .0 .ptr .1) (a .0 .name) (a .0 .now) (a .1 .0) (a .1 .1 .0) (a .1 .1 .1 .0) (a .1 .1 .1 .1 .0) (a .1 .1 .1 .1 .1 .0)
-      (a .1 .1 .1 .1 .1 .1 .0) (are .1 .1 .0 .1) (are .1 .1 .1 .0 .1) (are .1 .1 .1 .1 .0 .1) (are .1 .1 .1 .1 .1 .0 .1) C Λ fm known (are .1 .0) (are .1 .1 .1 .1 .1 .1 .0)))
+      (a .1 .1 .1 .1 .1 .1 .0) (are .1 .1 .0 .1) (are .1 .1 .1 .0 .1) (are .1 .1 .1 .1 .0 .1) (are .1 .1 .1 .1 .1 .0 .1) C Λ fm known (are .1 .0)
+      (are .1 .1 .1 .1 .1 .1 .0)))
 
   goes : AllGo 𝓤 H A W 3 (in-place.signature .params) (in-place.ended .kept) stayed
   goes =

@@ -144,7 +144,8 @@ module _ {M : Type 1} (𝓤 : URA M) (H : Heap 𝓤) (A : Atoms 𝓤) (W : Given
   exits reply last said same-length call-is is =
       qed W (Left reply last) ∵
       suffices ! _ (ends-at 𝓤 H A alter.ended stayed (alter.clauses 𝓤 H A at-mem run) W
-      (((κ-sheet, (κ-table, (κ-list, tt))), (q-sheet, (q-table, (q-list, tt))), tt, params, values), tt) (answer-value (reply .answer)) (reply .answer)
+      (((κ-sheet, (κ-table, (κ-list, tt))), (q-sheet, (q-table, (q-list, tt))), tt, params, values), tt) (answer-value (reply .answer))
+      (reply .answer)
       (reply .sheet, (tt, (tt, (tt, (tt, (last, tt)))))) (tt, (tt, (tt, (tt, (tt, (same-length, tt))))))) $
       says ! (ap (λ (y : Reply). y .answer) (said .0), ap (λ (y : Reply). y .sheet) (said .0), said .1) $
       move ! (2 ∷ 3 ∷ []) $ join ! $ frame ! $ feqI ! (List Val) (vptr block offset ∷ []) (vptr block offset ∷ []) refl $ fjoin3 ! $
@@ -211,12 +212,14 @@ module _ {M : Type 1} (𝓤 : URA M) (H : Heap 𝓤) (A : Atoms 𝓤) (W : Given
         land ! (from ! (stop !)) (init ! 13 refl (struct.lawful replies.the-type reply-laws.the-laws 𝓤 H A W .typed reply _ reply-is .0)) $
         rewrite ! 13 (λ (u : Val). ‵ (fat fullShare reply-laws.mir l₈ 0 u))
         (ap only (struct.tells replies.the-type reply-laws.the-laws reply _ reply-is)) refl $
-        assigns ! (of-opd ! (load ! (from ! (fld ! refl (stop !))) (look-in ! 13 (sub ! 1 refl (whole !))))) (from ! (hop ! (look ! 27 refl) (stop !)))
+        assigns ! (of-opd ! (load ! (from ! (fld ! refl (stop !))) (look-in ! 13 (sub ! 1 refl (whole !)))))
+        (from ! (hop ! (look ! 27 refl) (stop !)))
         (store-raw ! 5 refl (struct.lawful sheets.the-type sheet-laws.the-laws 𝓤 H A W .typed (reply .sheet) _ (sheet-is reply _ reply-is) .0)) $
         assigns ! (of-opd ! (load ! (from ! (fld ! refl (stop !))) (look-in ! 13 (sub ! 0 refl (whole !))))) (from ! (stop !))
         (init ! 29 refl (enum.lawful answers.the-type answer-laws.the-laws 𝓤 H A W tt .typed (reply .answer) _ (answer-is reply _ reply-is) .0)) $
         -- the borrow is closed at the reply's sheet
-        owned ! sheets.the-row (Is sheets.the-row) (struct.makes sheets.the-type sheet-laws.the-plain 𝓤 H A) (reply .sheet) _ (sheet-is reply _ reply-is) $
+        owned ! sheets.the-row (Is sheets.the-row) (struct.makes sheets.the-type sheet-laws.the-plain 𝓤 H A) (reply .sheet) _
+        (sheet-is reply _ reply-is) $
         move ! (6 ∷ 0 ∷ 7 ∷ 8 ∷ 9 ∷ []) $ closes ! tt sheets.the-row (reply .sheet) (sheet-values (reply .sheet)) block offset $
         -- [obs; the borrow; its token; the reply's; the tokens; the last list; true; the table's; _10 (8); …; _0 (28)]
         returns ! (look ! 28 refl) $ forget ! 8 refl $ forget ! 10 refl $ forget ! 12 refl $ forget ! 14 refl $ forget ! 16 refl $ forget ! 18 refl $

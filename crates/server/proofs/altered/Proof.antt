@@ -13,7 +13,7 @@ use Rattle.walks.proofs.Walk.{slice-vals, shr-slice-tells, mut-slice-tells, shr
 use Rattle.walks.proofs.Walk.{owned, peeks, heard, nothing, Contract, Triple, calls-at, ensured, lasts, onEntry, Meets, tripleOf, entered, cited}
 use Rattle.walks.proofs.Walk.{says, Stays, stay-none, stay-none-slice, gave-slice, walkOf, AllGo, goes-none, goes-none-slice, goes-gave-slice}
 use Rattle.walks.proofs.Walk.{Walks, ends-at, walked, walk-meets, yes}
-use Rattle.walks.proofs.Lies.{lies-in, lies-out}
+use Rattle.walks.proofs.LentLocals.{lies-in, lies-out}
 use denote.Struct.Laws as struct
 use denote.Enum.Laws as enum
 use Rattle.store.specs.Calls.{replied, told}
@@ -168,7 +168,8 @@ module _ {M : Type 1} (𝓤 : URA M) (H : Heap 𝓤) (A : Atoms 𝓤) (W : Given
         → ent 𝓤 (onEntry 𝓤 H A altered.signature (κ-table, (κ-list, tt)) (q-table, (q-list, tt)) params values) (WpFn 𝓤 H C Λ code.function args Post)
     walk before-is table-is call-is list-is =
         let before-typed = struct.lawful sheets.the-type sheet-laws.the-laws 𝓤 H A W .typed before _ before-is .0 in
-        qed W (tokens ∷ ‵ (owns (sheets.the-row ∷ ShrSlice (named 0) κ-table u64 ∷ usize ∷ usize ∷ calls.the-row ∷ MutSlice (named 1) κ-list usize ∷ [])
+        qed W
+        (tokens ∷ ‵ (owns (sheets.the-row ∷ ShrSlice (named 0) κ-table u64 ∷ usize ∷ usize ∷ calls.the-row ∷ MutSlice (named 1) κ-list usize ∷ [])
         params values) ∷ []) ∵
         enter ! C Λ code.function args _ $
         alloc1 ! (λ l₀. alloc1 ! (λ l₁. alloc1 ! (λ l₂. alloc1 ! (λ l₃. alloc1 ! (λ l₄. alloc1 ! (λ l₅. alloc1 ! (λ l₆. alloc1 ! (λ l₇.
@@ -200,7 +201,8 @@ module _ {M : Type 1} (𝓤 : URA M) (H : Heap 𝓤) (A : Atoms 𝓤) (W : Given
         (and-then ! (load ! (from ! (stop !)) (look ! 20 refl)) (and-then ! (load ! (from ! (stop !)) (look ! 18 refl))
         (and-then ! (load ! (from ! (stop !)) (look ! 16 refl)) (and-then ! (load ! (from ! (stop !)) (look ! 5 refl)) (no-more !))))))) (λ value.
         use1 W (later (some (λ (answer : Answer). (tokens-and life ⊛ ‵ (answers.the-row .own answer (value ∷ [])))
-        ⊛ raw (ensured 𝓤 H A alter.ended (alter.clauses 𝓤 H A at-mem run) (life ∷ [], (κ-table, (κ-list, tt))) (passed l₇ name) tt answer)))) (id⊢ 𝓤 _) $
+        ⊛ raw
+        (ensured 𝓤 H A alter.ended (alter.clauses 𝓤 H A at-mem run) (life ∷ [], (κ-table, (κ-list, tt))) (passed l₇ name) tt answer)))) (id⊢ 𝓤 _) $
         await ! tt $ pick ! (λ answer.
         -- what `alter` ensures, at some last sheet and list
         split ! $ move ! (1 ∷ []) $

@@ -15,7 +15,7 @@ use Rattle.walks.proofs.Walk.{uint-vals, uint-tells, uint-makes, u8, usize, Ref
 use Rattle.walks.proofs.Walk.{shr-slice-tells, shr-slice-lawful, shr-slice-copy, only, owned, peeks, heard, nothing}
 use Rattle.walks.proofs.Walk.{Contract, Triple, calls-at, ensured, lasts, onEntry, Meets, tripleOf, entered, cited}
 use Rattle.walks.proofs.Walk.{says, Stays, stay-none-slice, stay-none, walkOf, goes-none-slice, goes-none, Walks, ends-at, walked, walk-meets, yes}
-use Rattle.walks.proofs.Lies.{lies-in, lies-out}
+use Rattle.walks.proofs.LentLocals.{lies-in, lies-out}
 use denote.Enum.Laws as enum
 use denote.Struct.Laws as struct
 use Rattle.files.specs.Turns.{stepAt, moved}
