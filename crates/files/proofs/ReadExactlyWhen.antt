@@ -1,4 +1,4 @@
--- When a lesson file is refused, with which number, and what is returned with it (document 01, 'Lesson files'). Assumes nothing.
+-- When a lesson file is refused, with which number, and what is returned with it (the request, 'Lesson files'). Assumes nothing.
 use Prim.Native.Nat.{ℕ, _<_}
 use mathlib.Core.Path.{_≡_, refl, ap}
 use mathlib.Core.Logic.{_↔_, _≢_}

@@ -1,4 +1,4 @@
--- The refusals of a lesson file (document 01, 'Lesson files'): 'Refusals, lowest first again'.
+-- The refusals of a lesson file (the request, 'Lesson files'): 'Refusals, lowest first again'.
 use Prim.Native.Nat.{ℕ, zero, _+_, _*_}
 use mathlib.Core.Bool.{not, _&&_, _||_}
 use mathlib.Core.List.{List, [], _∷_, _++_}

@@ -1,4 +1,4 @@
--- What a lesson file says (document 01, 'Lesson files').
+-- What a lesson file says (the request, 'Lesson files').
 use Prim.Native.Nat.{ℕ, zero, _+_, _*_}
 use mathlib.Core.Bool.{cond}
 use mathlib.Core.List.{List}

@@ -1,4 +1,4 @@
--- What is answered of a lesson file, and what reading it leaves (document 01, 'Lesson files').
+-- What is answered of a lesson file, and what reading it leaves (the request, 'Lesson files').
 use Prim.Native.Nat.{ℕ, zero}
 use mathlib.Core.List.{List, _++_}
 use lib.ListN.{drop}

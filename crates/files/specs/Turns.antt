@@ -1,4 +1,4 @@
--- The reader, row by row: what stands at a cursor, and where the cursor goes (document 01: it 'hands out rows in turn, unknown cells already
+-- The reader, row by row: what stands at a cursor, and where the cursor goes (the request: it 'hands out rows in turn, unknown cells already
 -- read, and then says that there are no more; over a file with any refusal but 28 it says that at once').
 use Prim.Native.Nat.{ℕ, zero, suc, _+_}
 use mathlib.Core.Bool.{cond}

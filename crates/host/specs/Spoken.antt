@@ -29,7 +29,7 @@ askedBy kind n =
     (cond (eqb kind 5) (One (Ask Count))
     (cond (eqb kind 6) (One (Ask Distinct)) Nothing))))))
 
--- an answer by document 01's numbers
+-- an answer by the request's numbers
 abbrev pub toldOf : Answer → Told
 toldOf a = record { refusal = numberOf a; first = at (valuesOf a) 0; second = at (valuesOf a) 1 }
 

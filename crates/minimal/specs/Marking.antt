@@ -1,5 +1,5 @@
 -- What the contracts say while the minimal rows of a view are marked: which values are rows of their own, how the other rows are chained,
--- and which rows are judged. The marks they come to are `firsts` (document 01, 'Which rows DISTINCT keeps').
+-- and which rows are judged. The marks they come to are `firsts` (the request, 'Which rows DISTINCT keeps').
 use Prim.Native.Nat.{ℕ, zero, suc, _+_, _-_, _*_, _/_, _%_, _^_, _≤_, _<_}
 use mathlib.Core.Path.{_≡_}
 use mathlib.Core.Logic.{_≢_, _⊎_}

@@ -1,4 +1,4 @@
--- Cases in the order of their numbers decide as document 01 says: a refusal is 'Given exactly when' its case applies and none of a lower number
+-- Cases in the order of their numbers decide as the request says: a refusal is 'Given exactly when' its case applies and none of a lower number
 -- does. Shown once, for any type of answer. Assumes nothing.
 use Prim.Native.Nat.{ℕ, _<_, _≤_}
 use mathlib.Core.Path.{_≡_, refl, sym, ap, subst, _∙_}

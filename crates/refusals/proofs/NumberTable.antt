@@ -1,4 +1,4 @@
--- The refusals, one by one, have the numbers that document 01 prints, and return a row only where it says so. Assumes nothing.
+-- The refusals, one by one, have the numbers that the request prints, and return a row only where it says so. Assumes nothing.
 use Prim.Native.Nat.{ℕ}
 use mathlib.Core.Path.{_≡_, refl}
 use mathlib.Core.List.{List, [], _∷_, map}

@@ -1,4 +1,4 @@
--- Which refusal is given (document 01, 'Refusal numbers'): 'Where several apply, the lowest number is given.'
+-- Which refusal is given (the request, 'Refusal numbers'): 'Where several apply, the lowest number is given.'
 use Prim.Native.Nat.{ℕ, zero, _<_}
 use mathlib.Core.Path.{_≡_}
 use mathlib.Core.Bool.{Bool, true, false, cond, _&&_, _||_}

@@ -1,4 +1,4 @@
--- The refusals by document 01's numbers ('Refusal numbers', and those of 'Lesson files').
+-- The refusals by the request's numbers ('Refusal numbers', and those of 'Lesson files').
 use Prim.Native.Nat.{ℕ, zero}
 use Rattle.refusals.specs.declared.Refusal.{Refusal}
 use Rattle.refusals.specs.declared.Refusal.the-variants.{TooLarge, BadRow, Unsound, OtherTable, NoDesk, NoRow, HiddenAlready, BadSet, Full}

@@ -1,4 +1,4 @@
--- Refusals 1 and 2, of a table that is lent (document 01, 'Refusal numbers').
+-- Refusals 1 and 2, of a table that is lent (the request, 'Refusal numbers').
 use Prim.Native.Nat.{ℕ, zero}
 use mathlib.Core.Bool.{_||_}
 use mathlib.Core.List.{List, [], _∷_}

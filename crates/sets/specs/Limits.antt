@@ -1,4 +1,4 @@
--- The limits of document 01, each under its one name. The code has them as constants of `Sheet`, which a contract can't name.
+-- The limits of the request, each under its one name. The code has them as constants of `Sheet`, which a contract can't name.
 use Prim.Native.Nat.{ℕ, _+_}
 
 -- 'd from 1 to 64'

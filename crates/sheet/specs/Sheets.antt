@@ -1,4 +1,4 @@
--- The class sheet, read: what a desk holds and hides, what is owed, and which sheets are sound (document 01, 'The class sheet').
+-- The class sheet, read: what a desk holds and hides, what is owed, and which sheets are sound (the request, 'The class sheet').
 use Prim.Native.Nat.{ℕ, _+_, _-_, _*_, _/_, _%_}
 use mathlib.Core.Path.{_≡_}
 use mathlib.Core.Bool.{Bool, not, _&&_, _||_}

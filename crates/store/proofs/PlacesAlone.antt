@@ -1,4 +1,4 @@
--- A wrong store of document 01, 'refusing an insert only when the 512 places are used, with no thought for places owed', does not meet demand 3. Assumes nothing.
+-- A wrong store of the request, 'refusing an insert only when the 512 places are used, with no thought for places owed', does not meet demand 3. Assumes nothing.
 use Prim.Native.Nat.{ℕ, zero, suc, _+_, _-_, _*_, _≤_, _<_}
 use mathlib.Core.Path.{_≡_, refl, sym, ap, _∙_}
 use mathlib.Core.Logic.{_≢_, inl, inr}

@@ -1,4 +1,4 @@
--- What each answer returns, as document 01 prints it: 'the set there', 'rows in the view, own rows held', 'the count n'; and of a refusal
+-- What each answer returns, as the request prints it: 'the set there', 'rows in the view, own rows held', 'the count n'; and of a refusal
 -- 'its number and a row number'. Assumes nothing.
 use Prim.Native.Nat.{ℕ}
 use mathlib.Core.Path.{_≡_, refl}

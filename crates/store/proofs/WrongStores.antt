@@ -1,4 +1,4 @@
--- The wrong stores that document 01 names do not meet demand 3: what any store that meets it has to tell instead. Assumes nothing.
+-- The wrong stores that the request names do not meet demand 3: what any store that meets it has to tell instead. Assumes nothing.
 use Prim.Native.Nat.{ℕ, zero, suc, _+_, _-_, _^_, _≤_, _<_}
 use mathlib.Core.Path.{_≡_, refl, sym, ap, ap₂, _∙_}
 use mathlib.Core.Logic.{_≢_, inl, inr}

@@ -1,4 +1,4 @@
--- The answers by document 01's numbers: 'Where an answer is an enum, a definition gives this paper's number and values for each case of the enum.'
+-- The answers by the request's numbers: 'Where an answer is an enum, a definition gives this paper's number and values for each case of the enum.'
 use Prim.Native.Nat.{ℕ, zero}
 use mathlib.Core.Bool.{Bool, true, false}
 use mathlib.Core.List.{List, [], _∷_}

@@ -1,4 +1,4 @@
--- A call on the class sheet: what is answered, the sheet that is handed back, and the lent list (document 01, the table of calls).
+-- A call on the class sheet: what is answered, the sheet that is handed back, and the lent list (the request, the table of calls).
 use Prim.Native.Nat.{ℕ, zero, suc, _+_}
 use mathlib.Core.Bool.{Bool, cond, not, _&&_, _||_}
 use mathlib.Core.List.{List, [], _∷_, _++_}

@@ -1,4 +1,4 @@
--- One desk: what it sees, and what it is told, from the table rows that it hides and the rows that it owns (document 01, 'The class sheet').
+-- One desk: what it sees, and what it is told, from the table rows that it hides and the rows that it owns (the request, 'The class sheet').
 use Prim.Native.Nat.{ℕ}
 use mathlib.Core.Bool.{Bool, not, cond, _&&_}
 use mathlib.Core.List.{List, [], _∷_, _++_}

@@ -1,4 +1,4 @@
--- P1 to P10 by one statement: the definitions, computed, keep what the table of document 01 says.
+-- P1 to P10 by one statement: the definitions, computed, keep what the table of the request says.
 -- Also the two families that it names. Assumes nothing.
 use mathlib.Core.Path.{_≡_, refl}
 use mathlib.Core.List.{[], _∷_, map, flatMap}

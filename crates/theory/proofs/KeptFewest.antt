@@ -1,5 +1,5 @@
 -- Demand 2, second half: no list of rows with the view's family is shorter than the kept rows;
--- and document 01's bounds on their number. Assumes nothing.
+-- and the request's bounds on their number. Assumes nothing.
 use Prim.Native.Nat.{ℕ, _+_, _≤_}
 use mathlib.Core.List.{List}
 use native.Mathlib.Omega.{arith}

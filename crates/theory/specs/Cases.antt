@@ -1,4 +1,4 @@
--- The cases P1 to P10 of document 01 as one table: a view, and the positions that are kept.
+-- The cases P1 to P10 of the request as one table: a view, and the positions that are kept.
 use Prim.Native.Nat.{ℕ}
 use mathlib.Core.List.{List, [], _∷_}
 

@@ -1,4 +1,4 @@
--- Choices, value sets and families (the paper's Definitions 2.3 to 2.5; document 01, 'Cells, choices and families').
+-- Choices, value sets and families (the paper's Definitions 2.3 to 2.5; the request, 'Cells, choices and families').
 -- A row is a number read as a set of values, and d is how many values the column has.
 use Prim.Native.Nat.{ℕ, zero, suc}
 use mathlib.Core.Path.{_≡_}

@@ -1,4 +1,4 @@
--- Which rows DISTINCT keeps (document 01, section of that name). Rows of a view are marked, one mark for each: true where the row is kept.
+-- Which rows DISTINCT keeps (the request, section of that name). Rows of a view are marked, one mark for each: true where the row is kept.
 use Prim.Native.Nat.{ℕ, zero, suc}
 use mathlib.Core.Bool.{Bool, true, false, not, cond, _&&_}
 use mathlib.Core.List.{List, [], _∷_, map}

@@ -1,4 +1,4 @@
--- In the order of the paper and of document 01. `Family`: choices, value sets and families. `Pairings`: pairings and the rank.
+-- In the order of the paper and of the request. `Family`: choices, value sets and families. `Pairings`: pairings and the rank.
 -- `Kept`: which rows DISTINCT keeps. `Necessary`: which rows are redundant, and which necessary.
 -- `Cases`: the table P1 to P10. `Search`: what a search for a larger pairing leaves behind.
 pub mod Family

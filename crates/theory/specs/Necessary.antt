@@ -1,5 +1,5 @@
 -- Which rows a list of rows can spare, and which it can't (the paper's Definitions 2.6 and 2.7).
--- The paper speaks of a set of rows; here a row is told by its place, since 'Equal rows are separate rows' (document 01).
+-- The paper speaks of a set of rows; here a row is told by its place, since 'Equal rows are separate rows' (the request).
 use Prim.Native.Nat.{ℕ, suc}
 use mathlib.Core.Bool.{Bool}
 use mathlib.Core.List.{List, _++_}

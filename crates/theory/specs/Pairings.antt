@@ -1,4 +1,4 @@
--- Pairings and the rank (document 01, 'Which rows DISTINCT keeps'): 'A pairing gives some values distinct rows that contain them.
+-- Pairings and the rank (the request, 'Which rows DISTINCT keeps'): 'A pairing gives some values distinct rows that contain them.
 -- The rank of a list of rows is the size of its largest pairing.'
 -- A pairing is a list with a mate for each row: 0 where the row has none, v + 1 where its mate is the value v.
 use Prim.Native.Nat.{ℕ, zero, suc, _≤_, _<_, max}

@@ -1,4 +1,4 @@
--- A search for a larger pairing (document 01): 'a value that finds its row taken asks that row's present value to move ..
+-- A search for a larger pairing (the request): 'a value that finds its row taken asks that row's present value to move ..
 -- No row is asked twice in one search.' These are the words in which the search in code says what it did: `asked` tests whether a row was asked.
 use Prim.Native.Nat.{ℕ, zero, suc, _<_}
 use mathlib.Core.Path.{_≡_}
