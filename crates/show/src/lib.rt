@@ -5,6 +5,7 @@ mod names; // names.rt: rows and families in letters or salaries
 mod tally; // tally.rt: how many comparisons agree and differ
 
 pub use lists::numbers;
+pub use lists::positions;
 pub use lists::rows;
 pub use names::Names;
 pub use names::family;

@@ -1,4 +1,4 @@
-// Rows and numbers in a line, each after a space.
+// Rows, numbers and positions in a line, each after a space.
 use crate::names::Names;
 use crate::names::row;
 use crate::number;
@@ -23,5 +23,18 @@ pub fn numbers(list: &[usize]) {
         next += 1;
         text(b" ");
         number(list[i]);
+    }
+}
+
+// The numbers of a set.
+pub fn positions(set: u64) {
+    let mut next: usize = 0;
+    while next < 64 {
+        let i = next;
+        next += 1;
+        if families::has(set, i) {
+            text(b" ");
+            number(i);
+        }
     }
 }

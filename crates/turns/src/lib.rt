@@ -1,18 +1,19 @@
-// What the programs about lessons share: a call with a lent list, and what came of it compared with what should.
-mod answers; // answers.rt: answers compared, and in words
-mod begins; // begins.rt: a lesson that does not begin
-mod filling; // filling.rt: a desk that inserts until it is refused
+// Lessons by script: each line is a turn and what must be told, and each turn is played through every door of the store.
+mod damage; // damage.rt: a sheet with one number changed
+mod doors; // doors.rt: the doors of the store, each by plain numbers
+mod lesson; // lesson.rt: a script from its first line to its last
+mod lists; // lists.rt: what a lent list holds after a call
+mod neighbour; // neighbour.rt: a neighbour who asks her questions again after every turn
+mod script; // script.rt: the lines of a script
 mod sheets; // sheets.rt: two sheets, place by place
-mod turn; // turn.rt: a call and all that came of it
+mod trial; // trial.rt: one turn through every door, compared with what must be told
+mod words; // words.rt: what is told, in words
 
-pub use answers::say;
-pub use begins::no_lesson;
-pub use filling::Filled;
-pub use filling::fill;
-pub use turn::LENT;
-pub use turn::PLENTY;
-pub use turn::Turn;
-pub use turn::call;
-pub use turn::came;
-pub use turn::lent;
-pub use turn::say_first;
+pub use lesson::Score;
+pub use lesson::play;
+pub use script::Told;
+pub use script::Turn;
+pub use script::read_turn;
+pub use trial::Outcome;
+pub use trial::at_door;
+pub use trial::once;

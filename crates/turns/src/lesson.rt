@@ -1,0 +1,138 @@
+// A script from its first line to its last. A line that begins with
+//     |  has the table that is lent from here on,
+//     ?  has the neighbour's table, and the lines after it that begin with > are her questions, asked again after every turn.
+// Any other line is a turn where it has a bar, and words to print where it has none.
+use crate::doors;
+use crate::neighbour;
+use crate::script;
+use crate::script::BAR;
+use crate::script::NEWLINE;
+use crate::script::Turn;
+use crate::trial::once;
+use crate::words;
+use sheet::Sheet;
+use show::Tally;
+use show::number;
+use show::text;
+
+const LENT: u8 = b'|';
+
+const LOOKS: u8 = b'?';
+
+const QUESTION: u8 = b'>';
+
+// How the class stands: its sheet, how often a desk was told what it must be, and how often the neighbour was.
+struct Class {
+    sheet: Sheet,
+    told: Tally,
+    looks: Tally,
+}
+
+// How often all was as it must be, in the turns and in the neighbour's looks.
+pub struct Score {
+    pub told: Tally,
+    pub looks: Tally,
+}
+
+// The turn as it is played for the i-th time.
+fn at_time(turn: Turn, i: usize) -> Turn {
+    let mut now = turn;
+    if turn.kind == doors::EVERY {
+        now.kind = (i % 7) as u64;
+    }
+    if turn.each != 0 {
+        now.desk = std::num::wrapping_add_usize(turn.desk, i / turn.each);
+    }
+    now
+}
+
+// A turn that is played as often as it says, and the neighbour who looks after each time.
+fn act(class: Class, script: &[u8], table: usize, questions: usize, turn: Turn) -> Class {
+    let mut sheet = class.sheet;
+    let mut told = class.told;
+    let mut looks = class.looks;
+    let mut asked = Tally::fresh();
+    let mut next: usize = 0;
+    while next < turn.times {
+        let now = at_time(turn, next);
+        next += 1;
+        let outcome = once(script, table, sheet, now);
+        told = told.count(outcome.right);
+        let came = outcome.told;
+        if !outcome.right {
+            text(b" - DIFFERS: told ");
+            words::say(now.kind, came);
+            text(b", or the list or the sheet is not as it must be");
+        }
+        if came.refusal == 0 {
+            if turn.spot == 0 {
+                let after = outcome.sheet;
+                sheet = after;
+            }
+        }
+        asked = neighbour::asks(script, questions, sheet);
+        looks = neighbour::looked(looks, asked);
+    }
+    neighbour::says(asked, looks);
+    Class { sheet, told, looks }
+}
+
+// The byte that a line begins with.
+fn mark(line: &[u8]) -> u8 {
+    if line.len() == 0 { 0 } else { line[0] }
+}
+
+// The turn's words, and what must be told.
+fn announce(words: &[u8], turn: Turn) {
+    let must = turn.must;
+    text(words);
+    words::say(turn.kind, must);
+    if 1 < turn.times {
+        text(b", ");
+        number(turn.times);
+        text(b" times");
+    }
+    text(b".");
+}
+
+// All lines of the script.
+pub fn play(script: &[u8]) -> Score {
+    let mut class = Class {
+        sheet: Sheet::fresh(0, 0, 0),
+        told: Tally::fresh(),
+        looks: Tally::fresh(),
+    };
+    let mut table = script.len();
+    let mut questions = script.len();
+    let mut next: usize = 0;
+    while next < script.len() {
+        let at = next;
+        let end = script::find(script, at, NEWLINE);
+        next = end + 1;
+        let line = &script[at..end];
+        let mark = mark(line);
+        if mark == LENT {
+            table = at;
+            continue;
+        }
+        if mark == LOOKS {
+            questions = at;
+            continue;
+        }
+        if mark == QUESTION {
+            continue;
+        }
+        let bar = script::find(line, 0, BAR);
+        if bar < line.len() {
+            let turn = script::read_turn(&line[bar..]);
+            announce(&line[0..bar], turn);
+            class = act(class, script, table, questions, turn);
+        } else {
+            text(line);
+        }
+        text(b"\n");
+    }
+    let told = class.told;
+    let looks = class.looks;
+    Score { told, looks }
+}
