@@ -109,30 +109,31 @@ module _ (d : ℕ) (table : List ℕ) (desks : ℕ) where
   abbrev leavesOn : Sheet → Ask → Sheet
   leavesOn s a = handedBy (askedBy (a .kind) (a .n)) d table s (a .desk) (length (a .list)) .sheet
 
+  -- where the arguments are lent and asked as these
+  as-lent : {table′ : List ℕ} {d′ k kind n : ℕ} {x s : Sheet} {a : Ask} {list : List ℕ} → (table′ ≡ table) × (d′ ≡ d) × (x ≡ s)
+      → (k ≡ a .desk) × (kind ≡ a .kind) × (n ≡ a .n) × (list ≡ a .list) → let asked = askedBy kind n in
+      (record { told = handedBy asked d′ table′ x k (length list) .told; list = listOf asked d′ table′ x k list } ≡ tellsOn s a)
+      × (handedBy asked d′ table′ x k (length list) .sheet ≡ leavesOn s a)
+  as-lent l q = (
+    λ i. record {
+      told = handedBy (askedBy (q .1 i) (q .2 i)) (l .1 i) (l .0 i) (l .2 i) (q .0 i) (length (q .3 i)) .told;
+      list = listOf (askedBy (q .1 i) (q .2 i)) (l .1 i) (l .0 i) (l .2 i) (q .0 i) (q .3 i);
+    },
+    λ i. handedBy (askedBy (q .1 i) (q .2 i)) (l .1 i) (l .0 i) (l .2 i) (q .0 i) (length (q .3 i)) .sheet,
+  )
+
   called : (s : Sheet) (a : Ask) (o : Heard) (s′ : Sheet) → Called s a o s′ → (o ≡ tellsOn s a) × (s′ ≡ leavesOn s a)
   called s a o s′ c =
-      let l = c .lends in
-      let q = c .asks in (
-        c .tells ∙ (λ i. record { told = c .admitted .0 i .told; list = c .admitted .1 i })
-            ∙ (λ i. record {
-              told = handedBy (askedBy (q .1 i) (q .2 i)) (l .1 i) (l .0 i) (l .2 i) (q .0 i) (length (q .3 i)) .told;
-              list = listOf (askedBy (q .1 i) (q .2 i)) (l .1 i) (l .0 i) (l .2 i) (q .0 i) (q .3 i);
-            }),
-        c .hands-back ∙ ap (λ (h : Handed). h .sheet) (c .admitted .0)
-            ∙ (λ i. handedBy (askedBy (q .1 i) (q .2 i)) (l .1 i) (l .0 i) (l .2 i) (q .0 i) (length (q .3 i)) .sheet),
+      let lent = as-lent (c .lends) (c .asks) in (
+        c .tells ∙ (λ i. record { told = c .admitted .0 i .told; list = c .admitted .1 i }) ∙ lent .0,
+        c .hands-back ∙ ap (λ (h : Handed). h .sheet) (c .admitted .0) ∙ lent .1,
       )
 
   altered : (s : Sheet) (a : Ask) (o : Heard) (s′ : Sheet) → Altered s a o s′ → (o ≡ tellsOn s a) × (s′ ≡ leavesOn s a)
   altered s a o s′ c =
-      let l = c .lends in
-      let q = c .asks in (
-        c .tells ∙ (λ i. record { told = c .admitted .0 i; list = c .admitted .2 i })
-            ∙ (λ i. record {
-              told = handedBy (askedBy (q .1 i) (q .2 i)) (l .1 i) (l .0 i) (l .2 i) (q .0 i) (length (q .3 i)) .told;
-              list = listOf (askedBy (q .1 i) (q .2 i)) (l .1 i) (l .0 i) (l .2 i) (q .0 i) (q .3 i);
-            }),
-        c .leaves ∙ c .admitted .1
-            ∙ (λ i. handedBy (askedBy (q .1 i) (q .2 i)) (l .1 i) (l .0 i) (l .2 i) (q .0 i) (length (q .3 i)) .sheet),
+      let lent = as-lent (c .lends) (c .asks) in (
+        c .tells ∙ (λ i. record { told = c .admitted .0 i; list = c .admitted .2 i }) ∙ lent .0,
+        c .leaves ∙ c .admitted .1 ∙ lent .1,
       )
 
   after-on : (past : List Ask) → after (begunSheet d table desks) tellsOn leavesOn past ≡ sheetOn d table desks (turnsOf past)

@@ -3,7 +3,6 @@
 use Prim.Native.Nat.{ℕ}
 use mathlib.Core.Path.{_≡_, _∙_}
 use mathlib.Core.List.{List}
-use lib.ListN.{length}
 use contract.Lifetimes.{Lfts}
 use denote.Ref.{now}
 use denote.Triple.Entry.{Args}
@@ -11,10 +10,9 @@ use denote.Triple.Clauses.{AtExit}
 use Rattle.sheet.specs.declared.Sheet.{Sheet}
 use Rattle.store.specs.declared.Answer.{Answer}
 use Rattle.store.specs.Desks.{Told}
-use Rattle.store.specs.Calls.{sheetAfter, told}
 use Rattle.store.specs.Promise.{Turn, sheetOn, classStore}
 use Rattle.store.proofs.Runs.{Run}
-use Rattle.store.proofs.PlayedTells.{Begun, tellsOn, leavesOn, tellings, door-tells}
+use Rattle.store.proofs.PlayedTells.{Begun, tellsOn, leavesOn, as-lent, tellings, door-tells}
 use Rattle.server.proofs.Determined.{Alters}
 use Rattle.server.proofs.alter as alter
 
@@ -33,11 +31,9 @@ module _ (d : ℕ) (table : List ℕ) (desks : ℕ) where
 
   turns : (s : Sheet) (t : Turn) (o : Told) (s′ : Sheet) → Altered s t o s′ → (o ≡ tellsOn d table desks s t) × (s′ ≡ leavesOn d table desks s t)
   turns s t o s′ c =
-      let l = c .lends in
-      let q = c .asks in (
-        c .tells ∙ (λ i. record { answer = c .admitted .0 i; list = c .admitted .2 i })
-            ∙ (λ i. told (l .1 i) (l .0 i) (l .2 i) (q .0 i) (q .1 i) (q .2 i)),
-        c .leaves ∙ c .admitted .1 ∙ (λ i. sheetAfter (l .1 i) (l .0 i) (l .2 i) (q .0 i) (q .1 i) (length (q .2 i))),
+      let lent = as-lent d table desks (c .lends) (c .asks) in (
+        c .tells ∙ (λ i. record { answer = c .admitted .0 i; list = c .admitted .2 i }) ∙ lent .0,
+        c .leaves ∙ c .admitted .1 ∙ lent .1,
       )
 
   pub alter-played-tells : {past : List Turn} {said : List Told} {s : Sheet} → Run (Begun d table desks) Altered past said s

@@ -9,6 +9,7 @@ use denote.Ref.{now}
 use denote.Triple.Clauses.{AtExit}
 use borrow.Fn.Kinds.{Dens, endedOf}
 use Rattle.sheet.specs.declared.Sheet.{Sheet}
+use Rattle.store.specs.declared.Call.{Call}
 use Rattle.store.specs.declared.Reply.{Reply}
 use Rattle.store.specs.Desks.{Told}
 use Rattle.store.specs.Calls.{begunSheet, sheetAfter, told}
@@ -63,14 +64,20 @@ module _ (d : ℕ) (table : List ℕ) (desks : ℕ) where
   abbrev pub leavesOn : Sheet → Turn → Sheet
   leavesOn s t = sheetAfter d table s (t .desk) (t .call) (length (t .list))
 
+  -- where a turn's arguments are lent and asked as these
+  pub as-lent : {table′ : List ℕ} {d′ k : ℕ} {x s : Sheet} {t : Turn} {c : Call} {list : List ℕ} → (table′ ≡ table) × (d′ ≡ d) × (x ≡ s)
+      → (k ≡ t .desk) × (c ≡ t .call) × (list ≡ t .list)
+      → (told d′ table′ x k c list ≡ tellsOn s t) × (sheetAfter d′ table′ x k c (length list) ≡ leavesOn s t)
+  as-lent l q = (
+    λ i. told (l .1 i) (l .0 i) (l .2 i) (q .0 i) (q .1 i) (q .2 i),
+    λ i. sheetAfter (l .1 i) (l .0 i) (l .2 i) (q .0 i) (q .1 i) (length (q .2 i)),
+  )
+
   turns : (s : Sheet) (t : Turn) (o : Told) (s′ : Sheet) → Called s t o s′ → (o ≡ tellsOn s t) × (s′ ≡ leavesOn s t)
   turns s t o s′ c =
-      let l = c .lends in
-      let q = c .asks in (
-        c .tells ∙ (λ i. record { answer = c .admitted .0 i .answer; list = c .admitted .1 i })
-            ∙ (λ i. told (l .1 i) (l .0 i) (l .2 i) (q .0 i) (q .1 i) (q .2 i)),
-        c .hands-back ∙ ap (λ (r : Reply). r .sheet) (c .admitted .0)
-            ∙ (λ i. sheetAfter (l .1 i) (l .0 i) (l .2 i) (q .0 i) (q .1 i) (length (q .2 i))),
+      let lent = as-lent (c .lends) (c .asks) in (
+        c .tells ∙ (λ i. record { answer = c .admitted .0 i .answer; list = c .admitted .1 i }) ∙ lent .0,
+        c .hands-back ∙ ap (λ (r : Reply). r .sheet) (c .admitted .0) ∙ lent .1,
       )
 
   -- the sheets of such a run are those of `classStore`
