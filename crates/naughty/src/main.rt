@@ -30,7 +30,7 @@ fn end_of_lena(looks: Tally) {
     }
 }
 
-// The story: crates/turns/src/lesson.rt says how its lines are read. After each turn Lena looks at every row that she should see and at the place
+// The story: crates/turns/src/script.rt says how its lines are read. After each turn Lena looks at every row that she should see and at the place
 // after the last, counts, and asks DISTINCT: [a], [b] and [c, d] are minimal; [a, b] does not raise the rank, [a, c, d, e] and her first own row do,
 // and then it is 5, and no row can raise it more.
 fn main() {

@@ -1,25 +1,19 @@
-// A script from its first line to its last. A line that begins with
-//     |  has the table that is lent from here on,
-//     ?  has the neighbour's table, and the lines after it that begin with > are her questions, asked again after every turn.
-// Any other line is a turn where it has a bar, and words to print where it has none.
+// A script from its first line to its last.
 use crate::doors;
 use crate::neighbour;
 use crate::script;
 use crate::script::BAR;
-use crate::script::NEWLINE;
+use crate::script::QUESTION;
+use crate::script::QUESTIONS;
 use crate::script::Turn;
+use crate::texts;
+use crate::texts::NEWLINE;
 use crate::trial::once;
 use crate::words;
 use sheet::Sheet;
 use show::Tally;
 use show::number;
 use show::text;
-
-const LENT: u8 = b'|';
-
-const LOOKS: u8 = b'?';
-
-const QUESTION: u8 = b'>';
 
 // How the class stands: its sheet, how often a desk was told what it must be, and how often the neighbour was.
 struct Class {
@@ -107,22 +101,22 @@ pub fn play(script: &[u8]) -> Score {
     let mut next: usize = 0;
     while next < script.len() {
         let at = next;
-        let end = script::find(script, at, NEWLINE);
+        let end = texts::find(script, at, NEWLINE);
         next = end + 1;
         let line = &script[at..end];
         let mark = mark(line);
-        if mark == LENT {
+        if mark == BAR {
             table = at;
             continue;
         }
-        if mark == LOOKS {
+        if mark == QUESTIONS {
             questions = at;
             continue;
         }
         if mark == QUESTION {
             continue;
         }
-        let bar = script::find(line, 0, BAR);
+        let bar = texts::find(line, 0, BAR);
         if bar < line.len() {
             let turn = script::read_turn(&line[bar..]);
             announce(&line[0..bar], turn);

@@ -6,13 +6,13 @@ pub const PLENTY: usize = 320;
 // What stands in each place of the list before the call: no position of any view.
 pub const LENT: usize = 999;
 
-// The positions in the front of a list, as a set; and whether they rise, and every later place holds what it had.
+// The positions in the front of a list, as a set, and whether the list is tidy: they rise, and every later place holds what it had.
 pub struct Listed {
     pub kept: u64,
     pub tidy: bool,
 }
 
-// The first n places of the list hold positions below 64.
+// Positions stand in the first n places. No script lists one above 63, so a word holds the set.
 pub fn read(list: [usize; PLENTY], n: u64) -> Listed {
     let untidy = Listed {
         kept: 0,

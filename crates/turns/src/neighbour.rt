@@ -1,12 +1,12 @@
 // A neighbour who asks her questions again after every turn, and must be told the same.
 use crate::script;
-use crate::script::NEWLINE;
+use crate::script::QUESTION;
+use crate::texts;
+use crate::texts::NEWLINE;
 use crate::trial::once;
 use sheet::Sheet;
 use show::Tally;
 use show::text;
-
-const QUESTION: u8 = b'>';
 
 // The line at `from` has her table, and the lines after it, while they are questions, are her turns. Answers how many are told what they must be.
 pub fn asks(script: &[u8], from: usize, sheet: Sheet) -> Tally {
@@ -14,14 +14,14 @@ pub fn asks(script: &[u8], from: usize, sheet: Sheet) -> Tally {
     if script.len() <= from {
         return tally;
     }
-    let start = script::find(script, from, NEWLINE);
+    let start = texts::find(script, from, NEWLINE);
     let mut next = start + 1;
     while next < script.len() {
         let at = next;
         if script[at] != QUESTION {
             return tally;
         }
-        let end = script::find(script, at, NEWLINE);
+        let end = texts::find(script, at, NEWLINE);
         next = end + 1;
         let turn = script::read_turn(&script[at..end]);
         let outcome = once(script, from, sheet, turn);
@@ -47,7 +47,7 @@ pub fn says(asked: Tally, looks: Tally) {
         text(b" LENA'S ROWS HAVE CHANGED.");
         return;
     }
-    script::print_line(
+    texts::print_line(
         b" Lena: no change.
  Lena: all there.
  Lena: as before.

@@ -2,15 +2,15 @@
 use crate::doors::COUNT;
 use crate::doors::DISTINCT;
 use crate::doors::LOOK;
-use crate::script;
 use crate::script::Told;
+use crate::texts;
 use show::Names;
 use show::number;
 use show::text;
 
 // Why a call is refused, as one would tell it to a pupil: a line for each refusal number.
 fn reason(refusal: u64) {
-    script::print_line(
+    texts::print_line(
         b"
  (no table has that size)
  (that is no row)

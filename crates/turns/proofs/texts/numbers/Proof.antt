@@ -1,10 +1,10 @@
--- `turns::script::numbers` meets its contract. The place stays within the text, and the list is as long as it was. Assumes nothing.
+-- `turns::texts::numbers` meets its contract. The place stays within the text, and the list is as long as it was. Assumes nothing.
 use mathlib.Core.Path.{_≡_}
 use Prim.Native.Nat.{_≤_, _-_}
 use lib.ListN.{length}
 use borrow.Author.Needs.{needs}
-use Rattle.turns.proofs.script.numbers.Statement.{statement}
-use Rattle.turns.proofs.script.numbers.Tie as tie
+use Rattle.turns.proofs.texts.numbers.Statement.{statement}
+use Rattle.turns.proofs.texts.numbers.Tie as tie
 
 abbrev Inv-loop : tie.InvT-loop
 Inv-loop text into₀ value₀ count₀ next₀ into value count next =

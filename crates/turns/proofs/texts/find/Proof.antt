@@ -1,9 +1,9 @@
--- `turns::script::find` meets its contract. The place stays within the text. Assumes nothing.
+-- `turns::texts::find` meets its contract. The place stays within the text. Assumes nothing.
 use Prim.Native.Nat.{_≤_, _-_}
 use lib.ListN.{length}
 use borrow.Author.Needs.{needs}
-use Rattle.turns.proofs.script.find.Statement.{statement}
-use Rattle.turns.proofs.script.find.Tie as tie
+use Rattle.turns.proofs.texts.find.Statement.{statement}
+use Rattle.turns.proofs.texts.find.Tie as tie
 
 abbrev Inv-loop : tie.InvT-loop
 Inv-loop text from byte at₀ at = (from ≤ at) × (at ≤ length text)

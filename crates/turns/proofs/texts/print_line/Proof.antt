@@ -1,9 +1,9 @@
--- `turns::script::print_line` meets its contract. The place stays within the text. Assumes nothing.
+-- `turns::texts::print_line` meets its contract. The place stays within the text. Assumes nothing.
 use Prim.Native.Nat.{_≤_}
 use lib.ListN.{length}
 use borrow.Author.Needs.{needs}
-use Rattle.turns.proofs.script.print_line.Statement.{statement}
-use Rattle.turns.proofs.script.print_line.Tie as tie
+use Rattle.turns.proofs.texts.print_line.Statement.{statement}
+use Rattle.turns.proofs.texts.print_line.Tie as tie
 
 abbrev Inv-loop : tie.InvT-loop
 Inv-loop text line at₀ left₀ at left = at ≤ length text
