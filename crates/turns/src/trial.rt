@@ -88,7 +88,7 @@ fn given(sheet: Sheet, turn: Turn) -> Sheet {
     spoilt(sheet, turn.spot, turn.value)
 }
 
-// The turn through every door: what came of the first that is not right, or else of the first of all.
+// The turn through every door: what came of it at one where it is not right, or else at the first.
 pub fn once(script: &[u8], at: usize, sheet: Sheet, turn: Turn) -> Outcome {
     let before = given(sheet, turn);
     let first = at_door(0, script, at, before, turn);
