@@ -3,11 +3,11 @@ use crate::doors;
 use crate::neighbour;
 use crate::script;
 use crate::script::BAR;
+use crate::script::Line;
 use crate::script::QUESTION;
 use crate::script::QUESTIONS;
+use crate::script::Told;
 use crate::script::Turn;
-use crate::texts;
-use crate::texts::NEWLINE;
 use crate::trial::once;
 use crate::words;
 use sheet::Sheet;
@@ -40,6 +40,13 @@ fn at_time(turn: Turn, i: usize) -> Turn {
     now
 }
 
+// What came instead of what must.
+fn complain(kind: u64, told: Told) {
+    text(b" - DIFFERS: told ");
+    words::say(kind, told);
+    text(b", or the list or the sheet is not as it must be");
+}
+
 // A turn that is played as often as it says, and the neighbour who looks after each time.
 fn act(class: Class, script: &[u8], table: usize, questions: usize, turn: Turn) -> Class {
     let mut sheet = class.sheet;
@@ -54,15 +61,11 @@ fn act(class: Class, script: &[u8], table: usize, questions: usize, turn: Turn) 
         told = told.count(outcome.right);
         let came = outcome.told;
         if !outcome.right {
-            text(b" - DIFFERS: told ");
-            words::say(now.kind, came);
-            text(b", or the list or the sheet is not as it must be");
+            complain(now.kind, came);
         }
-        if came.refusal == 0 {
-            if turn.spot == 0 {
-                let after = outcome.sheet;
-                sheet = after;
-            }
+        if came.refusal == 0 && turn.spot == 0 {
+            let after = outcome.sheet;
+            sheet = after;
         }
         asked = neighbour::asks(script, questions, sheet);
         looks = neighbour::looked(looks, asked);
@@ -71,15 +74,17 @@ fn act(class: Class, script: &[u8], table: usize, questions: usize, turn: Turn) 
     Class { sheet, told, looks }
 }
 
-// The byte that a line begins with.
-fn mark(line: &[u8]) -> u8 {
-    if line.len() == 0 { 0 } else { line[0] }
-}
-
-// The turn's words, and what must be told.
-fn announce(words: &[u8], turn: Turn) {
+// The line's words, and for a turn what must be told.
+fn announce(script: &[u8], at: usize, line: Line) {
+    let words = line.words;
+    let turn = line.turn;
     let must = turn.must;
-    text(words);
+    if at <= words && words <= script.len() {
+        text(&script[at..words]);
+    }
+    if turn.times == 0 {
+        return;
+    }
     words::say(turn.kind, must);
     if 1 < turn.times {
         text(b", ");
@@ -101,30 +106,20 @@ pub fn play(script: &[u8]) -> Score {
     let mut next: usize = 0;
     while next < script.len() {
         let at = next;
-        let end = texts::find(script, at, NEWLINE);
-        next = end + 1;
-        let line = &script[at..end];
-        let mark = mark(line);
-        if mark == BAR {
-            table = at;
-            continue;
+        let line = script::line_at(script, at);
+        next = line.next;
+        let mark = line.mark;
+        match mark {
+            BAR => table = at,
+            QUESTIONS => questions = at,
+            QUESTION => {}
+            _ => {
+                let turn = line.turn;
+                announce(script, at, line);
+                class = act(class, script, table, questions, turn);
+                text(b"\n");
+            }
         }
-        if mark == QUESTIONS {
-            questions = at;
-            continue;
-        }
-        if mark == QUESTION {
-            continue;
-        }
-        let bar = texts::find(line, 0, BAR);
-        if bar < line.len() {
-            let turn = script::read_turn(&line[bar..]);
-            announce(&line[0..bar], turn);
-            class = act(class, script, table, questions, turn);
-        } else {
-            text(line);
-        }
-        text(b"\n");
     }
     let told = class.told;
     let looks = class.looks;

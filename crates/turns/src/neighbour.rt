@@ -2,7 +2,6 @@
 use crate::script;
 use crate::script::QUESTION;
 use crate::texts;
-use crate::texts::NEWLINE;
 use crate::trial::once;
 use sheet::Sheet;
 use show::Tally;
@@ -11,19 +10,14 @@ use show::text;
 // The line at `from` has her table, and the lines after it, while they are questions, are her turns. Answers how many are told what they must be.
 pub fn asks(script: &[u8], from: usize, sheet: Sheet) -> Tally {
     let mut tally = Tally::fresh();
-    if script.len() <= from {
-        return tally;
-    }
-    let start = texts::find(script, from, NEWLINE);
-    let mut next = start + 1;
+    let mut next = script::after(script, from);
     while next < script.len() {
-        let at = next;
-        if script[at] != QUESTION {
+        let line = script::line_at(script, next);
+        next = line.next;
+        if line.mark != QUESTION {
             return tally;
         }
-        let end = texts::find(script, at, NEWLINE);
-        next = end + 1;
-        let turn = script::read_turn(&script[at..end]);
+        let turn = line.turn;
         let outcome = once(script, from, sheet, turn);
         tally = tally.count(outcome.right);
     }

@@ -1,12 +1,14 @@
 // The lines of a script. A line that begins with
 //     |  has the table that is lent from here on: how many rows, d, and the rows, of which the last stands for all that follow;
-//     ?  has the neighbour's table, and the lines after it that begin with > are her questions, asked again after every turn.
+//     ?  has the neighbour's table, and the turns after it that begin with > are her questions, asked again after every turn.
 // Any other line has words to print, and where it has a bar it is a turn: after the bar come its numbers,
 //     kind desk number = refusal first second kept * times / each # places @ spot value
 // What is no digit parts two numbers. One that is left out has its usual value; a sign leads on to the number that it stands before.
 // The kinds are those of include/foliokettle.h and of doors.rt. What follows the = must be told; `kept` is the set of positions that DISTINCT
 // lists. The turn is played so many times, and where `each` is not 0 the next desk comes after each so many. The lent list has so many places.
 // The sheet is one with a number changed: damage.rt has the spots.
+ghost use Prim.Native.Nat.{_<_};
+ghost use lib.ListN.{length};
 use crate::texts;
 use crate::texts::NEWLINE;
 
@@ -15,6 +17,14 @@ pub const BAR: u8 = b'|';
 pub const QUESTIONS: u8 = b'?';
 
 pub const QUESTION: u8 = b'>';
+
+// A line from its first byte to the next line's: what it begins with, where its words end, and the turn, which is played 0 times where there is none.
+pub struct Line {
+    pub mark: u8,
+    pub words: usize,
+    pub next: usize,
+    pub turn: Turn,
+}
 
 // What a desk is told: the refusal number or 0, the values of the answer, and the positions listed.
 pub struct Told {
@@ -44,6 +54,37 @@ pub struct Table {
     pub rows: [u64; ROWS],
     pub many: usize,
     pub d: usize,
+}
+
+// The line that begins at a place of the script.
+pub fn line_at(script: &[u8], at: usize) -> Line
+    requires { ⌜ at < length (now script) ⌝ }
+    ensures { λ r. ⌜ at < r .next ⌝ }
+{
+    let end = texts::find(script, at, NEWLINE);
+    let bar = texts::find(script, at, BAR);
+    let mut words = end;
+    let mut turn = read_turn(b"");
+    turn.times = 0;
+    if bar < end {
+        words = bar;
+        turn = read_turn(&script[bar..end]);
+    }
+    Line {
+        mark: script[at],
+        words,
+        next: end + 1,
+        turn,
+    }
+}
+
+// Where the next line begins.
+pub fn after(script: &[u8], at: usize) -> usize {
+    if at < script.len() {
+        let line = line_at(script, at);
+        return line.next;
+    }
+    at
 }
 
 // The turn of a text.

@@ -5,11 +5,11 @@ use Rattle.turns.proofs.lesson.act.Statement.{statement}
 use Rattle.turns.proofs.lesson.act.Tie as tie
 
 abbrev Inv-loop : tie.InvT-loop
-Inv-loop script table questions turn sheet₀ told₀ looks₀ asked₀ next₀ t15 t16 sheet told looks asked next =
+Inv-loop script table questions turn sheet₀ told₀ looks₀ asked₀ next₀ sheet told looks asked next =
     next ≤ turn .times
 
 abbrev μ-loop : tie.MeasureT-loop
-μ-loop script table questions turn sheet₀ told₀ looks₀ asked₀ next₀ t15 t16 sheet told looks asked next =
+μ-loop script table questions turn sheet₀ told₀ looks₀ asked₀ next₀ sheet told looks asked next =
     turn .times - next
 
 pub act-spec : {M : Type 1} → statement M
@@ -24,10 +24,6 @@ act-spec =
     (λ c. search needs)
     (λ c κs. search needs)
     (λ c κs. search needs)
-    (λ c. search needs)
-    (λ c κs. search needs)
-    (λ c κs. search needs)
-    (λ c. search needs)
     (λ c κs. search needs)
     (λ c κs. search needs)
     (λ c κs. search needs)

@@ -6,10 +6,10 @@ use Rattle.turns.proofs.lesson.play.Statement.{statement}
 use Rattle.turns.proofs.lesson.play.Tie as tie
 
 abbrev Inv-loop : tie.InvT-loop
-Inv-loop script class₀ table₀ questions₀ next₀ t14 class table questions next = next₀ ≤ next
+Inv-loop script class₀ table₀ questions₀ next₀ t12 class table questions next = next₀ ≤ next
 
 abbrev μ-loop : tie.MeasureT-loop
-μ-loop script class₀ table₀ questions₀ next₀ t14 class table questions next =
+μ-loop script class₀ table₀ questions₀ next₀ t12 class table questions next =
     length script - next
 
 pub play-spec : {M : Type 1} → statement M
@@ -27,22 +27,8 @@ play-spec =
     (λ c. search needs)
     (λ c. search needs)
     (λ c. search needs)
-    (λ c κs. search needs)
     (λ c. search needs)
     (λ c. search needs)
-    (λ c. search needs)
-    (λ c. search needs)
-    (λ c. search needs)
-    (λ c. search needs)
-    (λ c κs. search needs)
-    (λ c. search needs)
-    (λ c. search needs)
-    (λ c. search needs)
-    (λ c κs. search needs)
-    (λ c. search needs)
-    (λ c. search needs)
-    (λ c. search needs)
-    (λ c κs. search needs)
     (λ c κs. search needs)
     (λ c κs. search needs)
     (λ c. search needs)

@@ -6,10 +6,10 @@ use Rattle.turns.proofs.neighbour.asks.Statement.{statement}
 use Rattle.turns.proofs.neighbour.asks.Tie as tie
 
 abbrev Inv-loop : tie.InvT-loop
-Inv-loop script from sheet tally₀ start next₀ tally next = next₀ ≤ next
+Inv-loop script from sheet tally₀ next₀ tally next = next₀ ≤ next
 
 abbrev μ-loop : tie.MeasureT-loop
-μ-loop script from sheet tally₀ start next₀ tally next = length script - next
+μ-loop script from sheet tally₀ next₀ tally next = length script - next
 
 pub asks-spec : {M : Type 1} → statement M
 asks-spec =
@@ -18,18 +18,10 @@ asks-spec =
     Inv-loop
     μ-loop
     (λ c κs. search needs)
+    (λ c κs. search needs)
     (λ c. search needs)
     (λ c κs. search needs)
     (λ c. search needs)
-    (λ c. search needs)
-    (λ c. search needs)
-    (λ c. search needs)
-    (λ c κs. search needs)
-    (λ c. search needs)
-    (λ c. search needs)
-    (λ c. search needs)
-    (λ c. search needs)
-    (λ c κs. search needs)
     (λ c κs. search needs)
     (λ c κs. search needs)
     (λ c. search needs)
