@@ -13,7 +13,7 @@ use lib.Seq.{set-append-seam}
 use borrow.Author.Tests.{not-true}
 use Rattle.sets.specs.Limits.{mostValues, wordBits}
 use Rattle.sets.specs.Sets.{has, single, minus}
-use Rattle.sets.proofs.Bools.{and-left, and-right, true-or-false, not-both, is-false}
+use Rattle.sets.proofs.Bools.{and-left, and-right, and-both, true-or-false, not-both, is-false}
 use Rattle.sets.proofs.Values.{has-empty, has-and, has-same, minus-in, minus-out}
 use Rattle.theory.specs.Pairings.{size, at, In, Seated, Largest}
 use Rattle.theory.specs.Search.{Heard}
@@ -176,31 +176,36 @@ module _ (s : Seats) (R columns p : List ℕ) (B : Bench s R columns p) where
         put : set (p ++ zero ∷ []) (length R) (v + 1) ≡ p ++ (v + 1) ∷ []
         put = ap (λ (n : ℕ). set (p ++ zero ∷ []) n (v + 1)) (sym (B .pairing .fits)) ∙ set-append-seam p zero [] (v + 1)
 
-    -- ---- a search from the free values but those that no row holds
+    -- ---- a search from the free values but those that no row holds, for a row that holds no free value
 
     abbrev from : ℕ
-    from = minus (s .free) (minus (s .fresh) row)
+    from = minus (s .free) (s .fresh)
 
     pub search-part : {rows columns′ p₀ : List ℕ} {heavy′ : ℕ} → Searches (s .free) rows columns′ heavy′ p₀ → Searches from rows columns′ heavy′ p₀
     search-part S = record {
       few = S .few;
       index = S .index;
       pairing = S .pairing;
-      new = λ v t. S .new v (minus-out (s .free) (minus (s .fresh) row) v t .0);
+      new = λ v t. S .new v (minus-out (s .free) (s .fresh) v t .0);
     }
 
     -- is one from all of them
-    pub search-all : {r : ℕ} {p₀ p′ : List ℕ} {asked : ℕ} → OfSearch r from (R ++ row ∷ []) p₀ p′ asked
+    pub search-all : {r : ℕ} {p₀ p′ : List ℕ} {asked : ℕ} → bitAnd row (s .free) ≡ zero → OfSearch r from (R ++ row ∷ []) p₀ p′ asked
         → OfSearch r (s .free) (R ++ row ∷ []) p₀ p′ asked
-    search-all {r} {p₀} {p′} {asked} O = record {
-      found = λ h. let k = O .found h in (minus-out (s .free) (minus (s .fresh) row) r (k .0) .0, k .1);
+    search-all {r} {p₀} {p′} {asked} apart O = record {
+      found = λ h. let k = O .found h in (minus-out (s .free) (s .fresh) r (k .0) .0, k .1);
       still = O .still;
       closed = O .closed;
-      heard = λ h v t. elim (true-or-false (has (minus (s .fresh) row) v)) [
-        | inl e ↦ λ j inn. let k = minus-out (s .fresh) row v e in absurd (unheld j v (inn .1) (k .0) (k .1))
-        | inr n ↦ O .heard h v (minus-in (s .free) (minus (s .fresh) row) v t n)
+      heard = λ h v t. elim (true-or-false (has (s .fresh) v)) [
+        | inl e ↦ λ j inn. absurd (unheld j v (inn .1) e (is-false (has row v) (not-held v t)))
+        | inr n ↦ O .heard h v (minus-in (s .free) (s .fresh) v t n)
       ];
     }
+      where
+        not-held : (v : ℕ) → has (s .free) v ≡ true → has row v ≡ true → ⊥
+        not-held v t h =
+            let both = has-and row (s .free) v ∙ and-both (has row v) (has (s .free) v) h t in
+            not-both both (ap (λ (x : ℕ). has x v) apart ∙ has-empty v)
 
     -- ---- a search has failed
 

@@ -21,11 +21,16 @@ use Rattle.theory.specs.Pairings.{at}
 use Rattle.theory.proofs.Places.{mate?}
 use Rattle.pairing.specs.declared.seats.Seats.{Seats}
 use Rattle.pairing.specs.Asking.{Inside, Index, Searches, Grown, OfSearch}
-use Rattle.pairing.specs.Seats.{seats, Mates, Unreached, Below, Bench, Sitting, taking, OfSeat}
+use Rattle.pairing.specs.Seats.{seats, Mates, Unreached, Below, Bench, Sitting, Seeks, taking, OfSeat}
 use Rattle.pairing.proofs.Benches.{seat-left, bench-more, bench-searches, bench-direct, search-part, search-all, failed-shut}
 use Rattle.pairing.proofs.Benches.{failed-row, bench-other}
 
-module _ (row : ℕ) (s : Seats) (rows columns mates : List ℕ) (S : Sitting s rows columns mates) where
+-- the row is passed over
+pub seat-passed : {row : ℕ} {s : Seats} {rows columns mates : List ℕ} → Sitting s rows columns mates → Inside row (s .dead) ⊎ (s .free ≡ zero)
+    → OfSeat row s rows s rows columns mates
+seat-passed S why = record { sits = S; column = refl; either = inl (record { used = refl; rows-kept = refl; why = why }) }
+
+module _ {s : Seats} {rows columns mates : List ℕ} (S : Sitting s rows columns mates) where
   -- the rows that sit, and their mates
   abbrev R : List ℕ
   R = take (s .used) rows
@@ -33,15 +38,11 @@ module _ (row : ℕ) (s : Seats) (rows columns mates : List ℕ) (S : Sitting s 
   abbrev p : List ℕ
   p = take (s .used) mates
 
-  -- the row is passed over
-  pub seat-passed : Inside row (s .dead) ⊎ (s .free ≡ zero) → OfSeat row s rows s rows columns mates
-  seat-passed why = record { sits = S; column = refl; either = inl (record { used = refl; rows-kept = refl; why = why }) }
-
   -- a value is free, so there is room
   pub seat-room : s .free ≢ zero → s .used < seats
   seat-room some = let t = some-value (s .free) some in omega (arith, seat-left s R columns p (S .bench) (t .0) (t .1), S .bench .used)
 
-  module _ (low : Below (s .d) row) (room : s .used < seats) where
+  module _ (row : ℕ) (low : Below (s .d) row) (room : s .used < seats) where
     rows-put : take (s .used + 1) (set rows (s .used) row) ≡ R ++ row ∷ []
     rows-put = rw add-one (take-suc-set rows (s .used) row (omega (arith, S .rows-wide)))
 
@@ -62,7 +63,8 @@ module _ (row : ℕ) (s : Seats) (rows columns mates : List ℕ) (S : Sitting s 
         few = omega (arith, same-used, room);
         bench =
             subst (λ (l : List ℕ). Bench (taking s₁ row v) l columns′ (take (s₁ .used + 1) mates′)) (sym rows-now)
-            (subst (Bench (taking s₁ row v) (R ++ row ∷ []) columns′) (sym mates-now) (bench-more s₁ R columns′ p B row (subst (λ (n : ℕ). Below n row) (sym same-d) low) v t p′ G));
+            (subst (Bench (taking s₁ row v) (R ++ row ∷ []) columns′) (sym mates-now)
+            (bench-more s₁ R columns′ p B row (subst (λ (n : ℕ). Below n row) (sym same-d) low) v t p′ G));
       };
       column = same-d;
       either = inr (record { used = ap (λ (n : ℕ). n + 1) same-used; rows-more = rows-now });
@@ -82,92 +84,125 @@ module _ (row : ℕ) (s : Seats) (rows columns mates : List ℕ) (S : Sitting s 
         (bench-direct s R columns p (S .bench) row low v t h)
         (length-set mates (s .used) (v + 1) ∙ S .mates-wide) (mates-put (v + 1))
 
-    -- ---- a search
+-- ---- a search
 
-    pub seek-index : (length (take (s .used) (set rows (s .used) row)) ≤ seats) × Index (take (s .used) (set rows (s .used) row)) columns (s .heavy)
-    seek-index =
-        (omega (arith, ap length rows-old, S .bench .used), subst (λ (l : List ℕ). Index l columns (s .heavy)) (sym rows-old) (S .bench .index))
+-- the places when the new row stands at the next one, without a mate
+abbrev pub rowsWith : ℕ → Seats → List ℕ → List ℕ
+rowsWith row s rows = set rows (s .used) row
 
-    module _ (columns′ : List ℕ) (heavy′ : ℕ) (X : Index (take (s .used) (set rows (s .used) row)) columns′ heavy′) (from : ℕ)
-        (is : from ≡ minus (s .free) (minus (s .fresh) row)) where
-      index : Index R columns′ heavy′
-      index = subst (λ (l : List ℕ). Index l columns′ heavy′) rows-old X
+abbrev pub matesWith : Seats → List ℕ → List ℕ
+matesWith s mates = set mates (s .used) zero
 
-      -- the seats with the new index
-      abbrev s₁ : ℕ → Seats
-      s₁ dead = record { d = s .d; used = s .used; entered = s .used; free = s .free; dead = dead; fresh = s .fresh; heavy = heavy′ }
+-- what a search has answered, which had the index and the values that a row on a seat holds
+pub record Searched (row : ℕ) (s : Seats) (rows mates columns′ : List ℕ) (heavy′ v : ℕ) (p′ : List ℕ) (asked : ℕ) : Type 0 where
+  pub index : Index (take (s .used) (rowsWith row s rows)) columns′ heavy′
+  pub from : ℕ
+  pub is : from ≡ minus (s .free) (s .fresh)
+  pub answer : OfSearch v from (take (s .used + 1) (rowsWith row s rows)) (take (s .used + 1) (matesWith s mates)) p′ asked
+  pub long : length p′ ≡ length (take (s .used + 1) (matesWith s mates))
 
-      pub seek-searches : Searches from (take (s .used + 1) (set rows (s .used) row)) columns′ (bitOr heavy′ (single (s .used))) (take (s .used + 1) (set mates (s .used) zero))
-      seek-searches =
-          subst
-          (λ (l : List ℕ). Searches from l columns′ (bitOr heavy′ (single (s .used))) (take (s .used + 1) (set mates (s .used) zero))) (sym rows-put)
-          (subst (Searches from (R ++ row ∷ []) columns′ (bitOr heavy′ (single (s .used)))) (sym (mates-put zero))
-          (subst (λ (n : ℕ). Searches from (R ++ row ∷ []) columns′ (bitOr heavy′ (single n)) (p ++ zero ∷ [])) (S .bench .used)
-          (subst (λ (f : ℕ). Searches f (R ++ row ∷ []) columns′ (bitOr heavy′ (single (length R))) (p ++ zero ∷ [])) (sym is)
-          (search-part s R columns p (S .bench) row low (bench-searches s R columns p (S .bench) row low columns′ heavy′ (omega (arith, S .bench .used)) index)))))
+module _ {row : ℕ} {s : Seats} {rows columns mates : List ℕ} (K : Seeks row s rows columns mates) where
+  abbrev S : Sitting s rows columns mates
+  S = K .sits
 
-      module _ (v : ℕ) (p′ : List ℕ) (asked : ℕ)
-          (O : OfSearch v from (take (s .used + 1) (set rows (s .used) row)) (take (s .used + 1) (set mates (s .used) zero)) p′ asked)
-          (long : length p′ ≡ s .used + 1) where
-        -- the mates when the search is over
-        abbrev mates′ : List ℕ
-        mates′ = p′ ++ drop (s .used + 1) (set mates (s .used) zero)
+  pub rows-long : length (rowsWith row s rows) ≡ seats
+  rows-long = length-set rows (s .used) row ∙ S .rows-wide
 
-        pub seek-long : length mates′ ≡ seats
-        seek-long = omega (
-          arith,
-          length-append p′ (drop (s .used + 1) (set mates (s .used) zero)),
-          length-drop (s .used + 1) (set mates (s .used) zero),
-          length-set mates (s .used) zero,
-          S .mates-wide,
-          long,
-        )
+  pub mates-long : length (matesWith s mates) ≡ seats
+  mates-long = length-set mates (s .used) zero ∙ S .mates-wide
 
-        plain : OfSearch v (s .free) (R ++ row ∷ []) (p ++ zero ∷ []) p′ asked
-        plain =
-            search-all s R columns p (S .bench) row low
-            (subst (λ (f : ℕ). OfSearch v f (R ++ row ∷ []) (p ++ zero ∷ []) p′ asked) is
-            (subst (λ (l : List ℕ). OfSearch v from l (p ++ zero ∷ []) p′ asked) rows-put (subst (λ (l : List ℕ). OfSearch v from (take (s .used + 1) (set rows (s .used) row)) l p′ asked) (mates-put zero) O)))
+  pub rows-next : s .used + 1 ≤ length (rowsWith row s rows)
+  rows-next = omega (arith, rows-long, K .room)
 
-        pub seek-found : v < wordBits → OfSeat row s rows (taking (s₁ (s .dead)) row v) (set rows (s .used) row) columns′ mates′
-        seek-found h =
-            let k = plain .found h in
-            seat-more (s₁ (s .dead)) columns′ v p′ mates′ refl refl
-            (bench-other s R columns p (S .bench) columns′ (s .used) heavy′ (s .dead) index (S .bench .shut)) (k .0) (k .1) seek-long
-            (take-at p′ (drop (s .used + 1) (set mates (s .used) zero)) (s .used + 1) long)
+  pub mates-next : s .used + 1 ≤ length (matesWith s mates)
+  mates-next = omega (arith, mates-long, K .room)
 
-        -- no value has got a row: the mates are as they were
-        module _ (none : wordBits ≤ v) where
-          mates-old : take (s .used) mates′ ≡ p
-          mates-old =
-              ap (λ (l : List ℕ). take (s .used) (l ++ drop (s .used + 1) (set mates (s .used) zero))) (plain .still none)
-              ∙ ap (take (s .used)) (append-assoc p (zero ∷ []) (drop (s .used + 1) (set mates (s .used) zero)))
-              ∙ take-at p (zero ∷ drop (s .used + 1) (set mates (s .used) zero)) (s .used) (length-take-le (s .used) mates (omega (arith, S .mates-wide)))
+  pub seek-index : (length (take (s .used) (rowsWith row s rows)) ≤ seats) × Index (take (s .used) (rowsWith row s rows)) columns (s .heavy)
+  seek-index =
+      let old = rows-old S row (K .low) (K .room) in
+      (omega (arith, ap length old, S .bench .used), subst (λ (l : List ℕ). Index l columns (s .heavy)) (sym old) (S .bench .index))
 
-          pub seek-mates : Mates (take (s .used) mates′)
-          seek-mates = subst Mates (sym mates-old) (record {
-            few = omega (arith, S .bench .pairing .fits, S .bench .used);
-            small = λ i. elim (mate? (at p i)) [ inl z ↦ omega (arith, z) | inr t ↦ omega (arith, t .1, S .bench .pairing .holds i (t .0) (t .1) .0) ];
-          })
+  -- with the index as it is when the light rows are entered
+  module _ {columns′ : List ℕ} {heavy′ : ℕ} (X : Index (take (s .used) (rowsWith row s rows)) columns′ heavy′) where
+    index : Index (R S) columns′ heavy′
+    index = subst (λ (l : List ℕ). Index l columns′ heavy′) (rows-old S row (K .low) (K .room)) X
 
-          pub seek-lost : (dead : ℕ) → Unreached asked (take (s .used) mates′) dead
-              → OfSeat row s rows (s₁ dead) (set rows (s .used) row) columns′ mates′
-          seek-lost dead D = record {
-            sits = record {
-              rows-wide = length-set rows (s .used) row ∙ S .rows-wide;
-              mates-wide = seek-long;
-              few = S .few;
-              bench =
-                  subst (λ (l : List ℕ). Bench (s₁ dead) l columns′ (take (s .used) mates′)) (sym rows-old)
-                  (subst (Bench (s₁ dead) R columns′) (sym mates-old)
-                  (bench-other s R columns p (S .bench) columns′ (s .used) heavy′ dead index (failed-shut s R columns p (S .bench) row low v p′ asked dead plain none plain-dead)));
-            };
-            column = refl;
-            either = inl (record { used = refl; rows-kept = rows-old; why = inl (failed-row s R columns p (S .bench) row low v p′ asked dead plain none plain-dead) });
-          }
-            where
-              plain-dead : Unreached asked p dead
-              plain-dead = subst (λ (l : List ℕ). Unreached asked l dead) mates-old D
+    -- the seats then
+    abbrev s₁ : ℕ → Seats
+    s₁ dead = record { d = s .d; used = s .used; entered = s .used; free = s .free; dead = dead; fresh = s .fresh; heavy = heavy′ }
+
+    pub seek-searches : (from all : ℕ) → from ≡ minus (s .free) (s .fresh) → all ≡ bitOr heavy′ (single (s .used))
+        → Searches from (take (s .used + 1) (rowsWith row s rows)) columns′ all (take (s .used + 1) (matesWith s mates))
+    seek-searches from all is every =
+        rw (is, every, rows-put S row (K .low) (K .room), mates-put S row (K .low) (K .room) zero)
+        (subst (λ (n : ℕ). Searches (minus (s .free) (s .fresh)) (R S ++ row ∷ []) columns′ (bitOr heavy′ (single n)) (p S ++ zero ∷ [])) (S .bench .used)
+        (search-part s (R S) columns (p S) (S .bench) row (K .low)
+        (bench-searches s (R S) columns (p S) (S .bench) row (K .low) columns′ heavy′ (omega (arith, S .bench .used, K .room)) index)))
+
+  module _ {columns′ : List ℕ} {heavy′ v : ℕ} {p′ : List ℕ} {asked : ℕ} (F : Searched row s rows mates columns′ heavy′ v p′ asked) where
+    -- the mates when the search is over
+    abbrev mates′ : List ℕ
+    mates′ = p′ ++ drop (s .used + 1) (matesWith s mates)
+
+    long : length p′ ≡ s .used + 1
+    long = F .long ∙ length-take-le (s .used + 1) (matesWith s mates) mates-next
+
+    pub seek-long : length mates′ ≡ seats
+    seek-long = omega (
+      arith,
+      length-append p′ (drop (s .used + 1) (matesWith s mates)),
+      length-drop (s .used + 1) (matesWith s mates),
+      mates-long,
+      long,
+      K .room,
+    )
+
+    plain : OfSearch v (s .free) (R S ++ row ∷ []) (p S ++ zero ∷ []) p′ asked
+    plain =
+        search-all s (R S) columns (p S) (S .bench) row (K .low) (K .apart)
+        (rw (F .is, rows-put S row (K .low) (K .room), mates-put S row (K .low) (K .room) zero) at (F .answer))
+
+    pub seek-found : v < wordBits → OfSeat row s rows (taking (s₁ (F .index) (s .dead)) row v) (rowsWith row s rows) columns′ mates′
+    seek-found h =
+        let k = plain .found h in
+        seat-more S row (K .low) (K .room) (s₁ (F .index) (s .dead)) columns′ v p′ mates′ refl refl
+        (bench-other s (R S) columns (p S) (S .bench) columns′ (s .used) heavy′ (s .dead) (index (F .index)) (S .bench .shut)) (k .0) (k .1) seek-long
+        (take-at p′ (drop (s .used + 1) (matesWith s mates)) (s .used + 1) long)
+
+    -- no value has got a row: the mates are as they were
+    module _ (none : wordBits ≤ v) where
+      mates-old : take (s .used) mates′ ≡ p S
+      mates-old =
+          ap (λ (l : List ℕ). take (s .used) (l ++ drop (s .used + 1) (matesWith s mates))) (plain .still none)
+          ∙ ap (take (s .used)) (append-assoc (p S) (zero ∷ []) (drop (s .used + 1) (matesWith s mates)))
+          ∙ take-at (p S) (zero ∷ drop (s .used + 1) (matesWith s mates)) (s .used)
+            (length-take-le (s .used) mates (omega (arith, S .mates-wide, K .room)))
+
+      pub seek-mates : Mates (take (s .used) mates′)
+      seek-mates = subst Mates (sym mates-old) (record {
+        few = omega (arith, S .bench .pairing .fits, S .bench .used, K .room);
+        small = λ i. elim (mate? (at (p S) i)) [
+          | inl z ↦ omega (arith, z)
+          | inr t ↦ omega (arith, t .1, S .bench .pairing .holds i (t .0) (t .1) .0)
+        ];
+      })
+
+      pub seek-lost : (dead : ℕ) → Unreached asked (take (s .used) mates′) dead
+          → OfSeat row s rows (s₁ (F .index) dead) (rowsWith row s rows) columns′ mates′
+      seek-lost dead D = record {
+        sits = record {
+          rows-wide = rows-long;
+          mates-wide = seek-long;
+          few = S .few;
+          bench = rw (rows-old S row (K .low) (K .room), mates-old)
+              (bench-other s (R S) columns (p S) (S .bench) columns′ (s .used) heavy′ dead (index (F .index)) (failed-shut s (R S) columns (p S) (S .bench) row (K .low) v p′ asked dead plain none plain-dead));
+        };
+        column = refl;
+        either = inl (record { used = refl; rows-kept = rows-old S row (K .low) (K .room); why = inl (failed-row s (R S) columns (p S) (S .bench) row (K .low) v p′ asked dead plain none plain-dead) });
+      }
+        where
+          plain-dead : Unreached asked (p S) dead
+          plain-dead = subst (λ (l : List ℕ). Unreached asked l dead) mates-old D
 
 -- the lowest value that the row has in common with others
 pub near-value : (row free v : ℕ) → row < 2 ^ wordBits → v ≡ trailingZeros wordBits (bitAnd row free) → bitAnd row free ≢ zero

@@ -4,7 +4,7 @@ use mathlib.Core.Path.{_≡_}
 use mathlib.Core.Logic.{_≢_, _⊎_}
 use mathlib.Core.Bool.{Bool, true, false}
 use mathlib.Core.List.{List, [], _∷_, _++_}
-use lib.Bits.{bitOr}
+use lib.Bits.{bitAnd, bitOr}
 use lib.ListN.{length, take}
 use Rattle.sets.specs.Limits.{mostValues}
 use Rattle.sets.specs.Sets.{has, single, minus}
@@ -56,6 +56,13 @@ pub record Sitting (s : Seats) (rows columns mates : List ℕ) : Type 0 where
   pub mates-wide : length mates ≡ seats
   pub few : s .used ≤ seats
   pub bench : Bench s (take (s .used) rows) columns (take (s .used) mates)
+
+-- the row holds no free value, and there is a seat that it may get
+pub record Seeks (row : ℕ) (s : Seats) (rows columns mates : List ℕ) : Type 0 where
+  pub sits : Sitting s rows columns mates
+  pub low : Below (s .d) row
+  pub apart : bitAnd row (s .free) ≡ zero
+  pub room : s .used < seats
 
 -- v has got a row, and the new row a seat
 abbrev pub taking : Seats → ℕ → ℕ → Seats

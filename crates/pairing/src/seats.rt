@@ -1,4 +1,5 @@
-// The rows that have mates sit on seats, in the order in which they got one: a row that has a mate once has one for good, though not always the same.
+// The rows that have mates sit on seats, in the order in which they got one: a row that has a mate once has one for good,
+// though not always the same.
 // A row more is put in where that makes the pairing larger: it takes a free value that it holds, or is hopeless, or seeks.
 ghost use mathlib.Core.Path.{_≡_};
 ghost use mathlib.Core.Logic.{_≢_};
@@ -9,7 +10,7 @@ ghost use lib.ListN.{length};
 ghost use Rattle.sets.specs.Limits.{mostValues};
 ghost use Rattle.sets.specs.Sets.{has};
 ghost use Rattle.pairing.specs.Asking.{Inside, Index};
-ghost use Rattle.pairing.specs.Seats.{seats, Entered, Mates, Unreached, Below, Sitting, taking, OfSeat, Hopeless};
+ghost use Rattle.pairing.specs.Seats.{seats, Entered, Mates, Unreached, Below, Sitting, Seeks, taking, OfSeat, Hopeless};
 use crate::search::search;
 
 // Beside the seats' rows, columns and mates: `d` is how many values the column has, `free` the values below d that have no row,
@@ -96,10 +97,44 @@ fn taken(s: Seats, row: u64, v: usize) -> Seats
     }
 }
 
-// A search decides whether the row gets a seat. If not, the values that no question reached never come free again.
+// The free value that a row takes: one that no row on a seat holds, where there is one, for such a row may want the others.
+fn near(row: u64, free: u64, fresh: u64) -> usize
+    requires { ⌜ (bitAnd row free ≢ 0) × Inside (bitAnd row fresh) free ⌝ }
+    ensures { λ r. ⌜ (r < mostValues) × (has free r ≡ true) × (has row r ≡ true) ⌝ }
+{
+    let new = row & fresh;
+    if new != 0 {
+        return sets::lowest(new);
+    }
+    sets::lowest(row & free)
+}
+
+// The row holds a value that is free, and takes it.
+fn sit_near(row: u64, s: Seats, rows: &mut [u64], columns: &mut [u64], mates: &mut [usize]) -> Seats
+    requires { ⌜ Sitting s (now rows) (now columns) (now mates) × Below (s .d) row × (bitAnd row (s .free) ≢ 0) ⌝ }
+    ensures { λ r. ⌜ OfSeat row s (now (rows .entry)) r (now (rows .exit)) (now (columns .exit)) (now (mates .exit)) ⌝ }
+{
+    let used = s.used;
+    let v = near(row, s.free, s.fresh);
+    rows[used] = row;
+    mates[used] = v + 1;
+    taken(s, row, v)
+}
+
+// A row that need not seek: no value is free, or the row holds dead values only.
+fn hopeless(row: u64, free: u64, dead: u64) -> bool
+    ensures { λ r. ⌜ Hopeless r row free dead ⌝ }
+{
+    if free == 0 {
+        return true;
+    }
+    sets::subset(row, dead)
+}
+
+// The row holds no free value, and a search decides whether it gets a seat. If not, the values that no question reached never come free again.
 // A free value that no row holds would ask in vain, so the search starts from the others.
-pub fn seek(row: u64, s: Seats, rows: &mut [u64], columns: &mut [u64], mates: &mut [usize]) -> Seats
-    requires { ⌜ (s .used < seats) × Sitting s (now rows) (now columns) (now mates) × Below (s .d) row ⌝ }
+fn seek(row: u64, s: Seats, rows: &mut [u64], columns: &mut [u64], mates: &mut [usize]) -> Seats
+    requires { ⌜ Seeks row s (now rows) (now columns) (now mates) ⌝ }
     ensures { λ r. ⌜ OfSeat row s (now (rows .entry)) r (now (rows .exit)) (now (columns .exit)) (now (mates .exit)) ⌝ }
 {
     let used = s.used;
@@ -107,7 +142,7 @@ pub fn seek(row: u64, s: Seats, rows: &mut [u64], columns: &mut [u64], mates: &m
     mates[used] = 0;
     let heavy = enter_light(s.entered, s.heavy, &rows[..used], columns);
     let end = used + 1;
-    let from = sets::minus(s.free, sets::minus(s.fresh, row));
+    let from = sets::minus(s.free, s.fresh);
     let mut asked: u64 = 0;
     let v = search(
         from,
@@ -144,42 +179,16 @@ pub fn seek(row: u64, s: Seats, rows: &mut [u64], columns: &mut [u64], mates: &m
     }
 }
 
-// The free value that a row takes: one that no row on a seat holds, where there is one, for such a row may want the others.
-fn near(row: u64, free: u64, fresh: u64) -> usize
-    requires { ⌜ (bitAnd row free ≢ 0) × Inside (bitAnd row fresh) free ⌝ }
-    ensures { λ r. ⌜ (r < mostValues) × (has free r ≡ true) × (has row r ≡ true) ⌝ }
+// A row is offered a seat: it takes a free value that it holds, or is hopeless, or seeks.
+pub fn offer(row: u64, s: Seats, rows: &mut [u64], columns: &mut [u64], mates: &mut [usize]) -> Seats
+    requires { ⌜ Sitting s (now rows) (now columns) (now mates) × Below (s .d) row ⌝ }
+    ensures { λ r. ⌜ OfSeat row s (now (rows .entry)) r (now (rows .exit)) (now (columns .exit)) (now (mates .exit)) ⌝ }
 {
-    let new = row & fresh;
-    if new != 0 {
-        return sets::lowest(new);
+    if row & s.free != 0 {
+        return sit_near(row, s, rows, columns, mates);
     }
-    sets::lowest(row & free)
-}
-
-// The row holds a value that is free, and takes it.
-pub fn sit_near(
-    row: u64,
-    s: Seats,
-    rows: &mut [u64],
-    columns: &mut [u64],
-    mates: &mut [usize],
-) -> Seats
-    requires { ⌜ Sitting s (now rows) (now columns) (now mates) × Below (s .d) row × (bitAnd row (s .free) ≢ 0) ⌝ }
-    ensures { λ r. ⌜ OfSeat row s (now (rows .entry)) r (now (rows .exit)) (now (columns .exit)) (now (mates .exit)) × (s .used < r .used) ⌝ }
-{
-    let used = s.used;
-    let v = near(row, s.free, s.fresh);
-    rows[used] = row;
-    mates[used] = v + 1;
-    taken(s, row, v)
-}
-
-// A row that need not seek: no value is free, or the row holds dead values only.
-pub fn hopeless(row: u64, free: u64, dead: u64) -> bool
-    ensures { λ r. ⌜ Hopeless r row free dead ⌝ }
-{
-    if free == 0 {
-        return true;
+    if hopeless(row, s.free, s.dead) {
+        return s;
     }
-    sets::subset(row, dead)
+    seek(row, s, rows, columns, mates)
 }

@@ -1,18 +1,35 @@
 -- `seek` meets its contract. Assumes nothing.
-use Prim.Native.Nat.{ℕ, _+_}
-use mathlib.Core.Path.{refl, sym, ap, subst, _∙_}
-use mathlib.Core.List.{_++_}
+use mathlib.Core.Path.{refl, sym, _∙_}
 use native.Mathlib.Omega.{arith}
-use lib.ListN.{set, take, drop, length-set}
 use lib.Seq.{length-take-le}
-use Rattle.sets.specs.Sets.{minus}
-use Rattle.pairing.specs.declared.seats.Seats.{Seats}
-use Rattle.pairing.specs.Asking.{Searches}
-use Rattle.pairing.specs.Seats.{OfSeat}
-use Rattle.pairing.proofs.SeatSteps.{seek-index, seek-searches, seek-long, seek-found, seek-mates, seek-lost}
+use Rattle.pairing.proofs.SeatSteps.{Searched, rows-long, mates-long, rows-next, mates-next, seek-index, seek-searches}
+use Rattle.pairing.proofs.SeatSteps.{seek-long, seek-found, seek-mates, seek-lost}
 use borrow.Author.Needs.{needs}
 use Rattle.pairing.proofs.seats.seek.Statement.{statement}
 use Rattle.pairing.proofs.seats.seek.Tie as tie
+
+-- the entry, seen from the places behind it
+abbrev from-entering : tie.After-enter-light → tie.Start
+from-entering c = c .before .before .before .before .before .before
+
+abbrev entering : tie.After-search → tie.After-enter-light
+entering c = c .before .before .before .before .before .before .before .before .before
+
+abbrev start : tie.After-search → tie.Start
+start c = from-entering (entering c)
+
+-- what the search has answered
+searched : (c : tie.After-search) →
+    Searched (start c .args .row) (start c .args .s) (start c .args .rows .now) (start c .args .mates .now)
+    (entering c .enter-light .last .1 .1 .1 .0) (entering c .enter-light .result)
+    (c .search .result) (c .search .last .1 .1 .1 .1 .0) (c .search .last .1 .1 .1 .1 .1 .0)
+searched c = record {
+  index = entering c .enter-light .ensures;
+  from = c .before .before .before .before .before .before .minus .result;
+  is = c .before .before .before .before .before .before .minus .ensures;
+  answer = c .search .ensures;
+  long = c .search .kept .1 .1 .1 .1 .0;
+}
 
 mul-rows : tie.Need-mul-rows
 mul-rows c = search needs
@@ -27,19 +44,13 @@ slice-write-mates : tie.Need-slice-write-mates
 slice-write-mates c = search needs
 
 slice-reshare-prefix-enter-light : tie.Need-slice-reshare-prefix-enter-light
-slice-reshare-prefix-enter-light c =
-    let e = c .before .before .before in
-    omega (arith, e .pre .0, e .pre .1 .rows-wide, length-set (e .args .rows .now) (e .args .s .used) (e .args .row))
+slice-reshare-prefix-enter-light c = let e = c .before .before .before in omega (arith, rows-next (e .pre))
 
 slice-aggregate-enter-light : tie.Need-slice-aggregate-enter-light
-slice-aggregate-enter-light c =
-    let e = c .before .before .before .before in
-    sym (length-take-le (e .args .s .used) (set (e .args .rows .now) (e .args .s .used) (e .args .row)) (omega (arith, e .pre .0, e .pre .1 .rows-wide, length-set (e .args .rows .now) (e .args .s .used) (e .args .row))))
+slice-aggregate-enter-light c = let e = c .before .before .before .before in sym (length-take-le _ _ (omega (arith, rows-next (e .pre))))
 
 enter-light-requires : tie.Need-enter-light-requires
-enter-light-requires c κs =
-    let e = c .before .before .before .before .before in
-    seek-index (e .args .row) (e .args .s) (e .args .rows .now) (e .args .columns .now) (e .args .mates .now) (e .pre .1) (e .pre .2) (e .pre .0)
+enter-light-requires c κs = seek-index (c .before .before .before .before .before .pre)
 
 add-end : tie.Need-add-end
 add-end c = search needs
@@ -47,38 +58,27 @@ add-end c = search needs
 minus-requires : tie.Need-minus-requires
 minus-requires c κs = search needs
 
-minus-requires-2 : tie.Need-minus-requires-2
-minus-requires-2 c κs = search needs
-
 slice-reshare-prefix-search : tie.Need-slice-reshare-prefix-search
-slice-reshare-prefix-search c =
-    let e = c .before .before .before .before .before .before .before .before .before .before in
-    omega (arith, e .pre .0, e .pre .1 .rows-wide, length-set (e .args .rows .now) (e .args .s .used) (e .args .row))
+slice-reshare-prefix-search c = rows-next (from-entering (c .before .before .before) .pre)
 
 slice-aggregate-search : tie.Need-slice-aggregate-search
-slice-aggregate-search c =
-    let e = c .before .before .before .before .before .before .before .before .before .before .before in
-    sym (length-take-le (e .args .s .used + 1) (set (e .args .rows .now) (e .args .s .used) (e .args .row)) (omega (arith, e .pre .0, e .pre .1 .rows-wide, length-set (e .args .rows .now) (e .args .s .used) (e .args .row))))
+slice-aggregate-search c = sym (length-take-le _ _ (rows-next (from-entering (c .before .before .before .before) .pre)))
 
 with-requires : tie.Need-with-requires
 with-requires c κs = search needs
 
 slice-relend-prefix-search : tie.Need-slice-relend-prefix-search
-slice-relend-prefix-search c =
-    let e = c .before .before .before .before .before .before .before .before .before .before .before .before .before in
-    omega (arith, e .pre .0, e .pre .1 .mates-wide, length-set (e .args .mates .now) (e .args .s .used) 0)
+slice-relend-prefix-search c = mates-next (from-entering (c .before .before .before .before .before .before) .pre)
 
 slice-aggregate-search-2 : tie.Need-slice-aggregate-search-2
 slice-aggregate-search-2 c =
-    let e = c .before .before .before .before .before .before .before .before .before .before .before .before .before .before in
-    sym (length-take-le (e .args .s .used + 1) (set (e .args .mates .now) (e .args .s .used) 0) (omega (arith, e .pre .0, e .pre .1 .mates-wide, length-set (e .args .mates .now) (e .args .s .used) 0)))
+    sym (length-take-le _ _ (mates-next (from-entering (c .before .before .before .before .before .before .before) .pre)))
 
 search-requires : tie.Need-search-requires
 search-requires c κs =
-    let e = c .before .before .before .before .before .before .before .before .before .before .before .before .before .before .before in
-    let x = c .before .before .before .before .before .before .before .before .before .enter-light in
-    let f = c .before .before .before .before .before in
-    (subst (λ (h : ℕ). Searches (f .minus2 .result) (take (e .args .s .used + 1) (set (e .args .rows .now) (e .args .s .used) (e .args .row))) (x .last .1 .1 .1 .0) h (take (e .args .s .used + 1) (set (e .args .mates .now) (e .args .s .used) 0))) (sym (c .before .before .with .ensures)) (seek-searches (e .args .row) (e .args .s) (e .args .rows .now) (e .args .columns .now) (e .args .mates .now) (e .pre .1) (e .pre .2) (e .pre .0) (x .last .1 .1 .1 .0) (x .result) (x .ensures) (f .minus2 .result) (f .minus2 .ensures ∙ ap (minus (e .args .s .free)) (f .before .minus .ensures))), refl)
+    let x = c .before .before .before .before .before .before .before .before in
+    let f = c .before .before .before .before .before .minus in
+    (seek-searches (from-entering x .pre) (x .enter-light .ensures) (f .result) _ (f .ensures) (c .before .before .with .ensures), refl)
 
 taken-requires : tie.Need-taken-requires
 taken-requires c κs = search needs
@@ -91,56 +91,28 @@ same-length-2 c = search needs
 
 same-length-3 : tie.Need-same-length-3
 same-length-3 c =
-    let e = c .before .before .before .before .before .before .before .before .before .before .before .before .before .before .before .before .before .before .before .before in
-    let x = c .before .before .before .before .before .before .before .before .before .before .before .before .before .before .enter-light in
-    let f = c .before .before .before .before .before .before .before .before .before .before in
-    let o = c .before .before .before .before .search in
-    let long = length-take-le (e .args .s .used + 1) (set (e .args .mates .now) (e .args .s .used) 0) (omega (arith, e .pre .0, e .pre .1 .mates-wide, length-set (e .args .mates .now) (e .args .s .used) 0)) in
-    seek-long (e .args .row) (e .args .s) (e .args .rows .now) (e .args .columns .now) (e .args .mates .now) (e .pre .1) (e .pre .2) (e .pre .0) (x .last .1 .1 .1 .0) (x .result) (x .ensures) (f .minus2 .result) (f .minus2 .ensures ∙ ap (minus (e .args .s .free)) (f .before .minus .ensures)) (o .result) (o .last .1 .1 .1 .1 .0) (o .last .1 .1 .1 .1 .1 .0) (o .ensures) (o .kept .1 .1 .1 .1 .0 ∙ long) ∙ sym (e .pre .1 .mates-wide)
+    let o = c .before .before .before .before in
+    seek-long (start o .pre) (searched o) ∙ sym (start o .pre .sits .mates-wide)
 
 returns : tie.Need-returns
 returns c =
-    let e = c .before .before .before .before .before .before .before .before .before .before .before .before .before .before .before .before .before .before .before .before in
-    let x = c .before .before .before .before .before .before .before .before .before .before .before .before .before .before .enter-light in
-    let f = c .before .before .before .before .before .before .before .before .before .before in
-    let o = c .before .before .before .before .search in
-    let long = length-take-le (e .args .s .used + 1) (set (e .args .mates .now) (e .args .s .used) 0) (omega (arith, e .pre .0, e .pre .1 .mates-wide, length-set (e .args .mates .now) (e .args .s .used) 0)) in
-    subst (λ (r : Seats). OfSeat (e .args .row) (e .args .s) (e .args .rows .now) r (set (e .args .rows .now) (e .args .s .used) (e .args .row)) (x .last .1 .1 .1 .0) (o .last .1 .1 .1 .1 .0 ++ drop (e .args .s .used + 1) (set (e .args .mates .now) (e .args .s .used) 0))) (sym (c .taken .ensures))
-    (seek-found (e .args .row) (e .args .s) (e .args .rows .now) (e .args .columns .now) (e .args .mates .now) (e .pre .1) (e .pre .2) (e .pre .0) (x .last .1 .1 .1 .0) (x .result) (x .ensures) (f .minus2 .result) (f .minus2 .ensures ∙ ap (minus (e .args .s .free)) (f .before .minus .ensures)) (o .result) (o .last .1 .1 .1 .1 .0) (o .last .1 .1 .1 .1 .1 .0) (o .ensures) (o .kept .1 .1 .1 .1 .0 ∙ long) (c .before .if1 .taken))
+    let o = c .before .before .before .before in
+    rw (c .taken .ensures) (seek-found (start o .pre) (searched o) (c .before .if1 .taken))
 
 slice-reshare-prefix-unreached : tie.Need-slice-reshare-prefix-unreached
 slice-reshare-prefix-unreached c =
-    let e = c .before .before .before .before .before .before .before .before .before .before .before .before .before .before .before .before .before .before .before in
-    let x = c .before .before .before .before .before .before .before .before .before .before .before .before .before .enter-light in
-    let f = c .before .before .before .before .before .before .before .before .before in
-    let o = c .before .before .before .search in
-    let long = length-take-le (e .args .s .used + 1) (set (e .args .mates .now) (e .args .s .used) 0) (omega (arith, e .pre .0, e .pre .1 .mates-wide, length-set (e .args .mates .now) (e .args .s .used) 0)) in
-    omega (
-      arith,
-      e .pre .0,
-      seek-long (e .args .row) (e .args .s) (e .args .rows .now) (e .args .columns .now) (e .args .mates .now) (e .pre .1) (e .pre .2) (e .pre .0) (x .last .1 .1 .1 .0) (x .result) (x .ensures) (f .minus2 .result) (f .minus2 .ensures ∙ ap (minus (e .args .s .free)) (f .before .minus .ensures)) (o .result) (o .last .1 .1 .1 .1 .0) (o .last .1 .1 .1 .1 .1 .0) (o .ensures) (o .kept .1 .1 .1 .1 .0 ∙ long),
-    )
+    let o = c .before .before .before in
+    omega (arith, start o .pre .room, seek-long (start o .pre) (searched o))
 
 slice-aggregate-unreached : tie.Need-slice-aggregate-unreached
 slice-aggregate-unreached c =
-    let e = c .before .before .before .before .before .before .before .before .before .before .before .before .before .before .before .before .before .before .before .before in
-    let x = c .before .before .before .before .before .before .before .before .before .before .before .before .before .before .enter-light in
-    let f = c .before .before .before .before .before .before .before .before .before .before in
-    let o = c .before .before .before .before .search in
-    let long = length-take-le (e .args .s .used + 1) (set (e .args .mates .now) (e .args .s .used) 0) (omega (arith, e .pre .0, e .pre .1 .mates-wide, length-set (e .args .mates .now) (e .args .s .used) 0)) in
-    sym (length-take-le (e .args .s .used) (o .last .1 .1 .1 .1 .0 ++ drop (e .args .s .used + 1) (set (e .args .mates .now) (e .args .s .used) 0)) (omega (arith, e .pre .0, seek-long (e .args .row) (e .args .s) (e .args .rows .now) (e .args .columns .now) (e .args .mates .now) (e .pre .1) (e .pre .2) (e .pre .0) (x .last .1 .1 .1 .0) (x .result) (x .ensures) (f .minus2 .result) (f .minus2 .ensures ∙ ap (minus (e .args .s .free)) (f .before .minus .ensures)) (o .result) (o .last .1 .1 .1 .1 .0) (o .last .1 .1 .1 .1 .1 .0) (o .ensures) (o .kept .1 .1 .1 .1 .0 ∙ long))))
+    let o = c .before .before .before .before in
+    sym (length-take-le _ _ (omega (arith, start o .pre .room, seek-long (start o .pre) (searched o))))
 
 unreached-requires : tie.Need-unreached-requires
 unreached-requires c κs =
-    let e = c .before .before .before .before .before .before .before .before .before .before .before .before .before .before .before .before .before .before .before .before in
-    let x = c .before .before .before .before .before .before .before .before .before .before .before .before .before .before .enter-light in
-    let f = c .before .before .before .before .before .before .before .before .before .before in
-    let o = c .before .before .before .before .search in
-    let long = length-take-le (e .args .s .used + 1) (set (e .args .mates .now) (e .args .s .used) 0) (omega (arith, e .pre .0, e .pre .1 .mates-wide, length-set (e .args .mates .now) (e .args .s .used) 0)) in
-    seek-mates (e .args .row) (e .args .s) (e .args .rows .now) (e .args .columns .now) (e .args .mates .now) (e .pre .1) (e .pre .2)
-    (e .pre .0) (x .last .1 .1 .1 .0) (x .result) (x .ensures) (f .minus2 .result)
-    (f .minus2 .ensures ∙ ap (minus (e .args .s .free)) (f .before .minus .ensures)) (o .result) (o .last .1 .1 .1 .1 .0)
-    (o .last .1 .1 .1 .1 .1 .0) (o .ensures) (o .kept .1 .1 .1 .1 .0 ∙ long) (c .before .if1 .left)
+    let o = c .before .before .before .before in
+    seek-mates (start o .pre) (searched o) (c .before .if1 .left)
 
 same-length-4 : tie.Need-same-length-4
 same-length-4 c = search needs
@@ -150,25 +122,13 @@ same-length-5 c = search needs
 
 same-length-6 : tie.Need-same-length-6
 same-length-6 c =
-    let e = c .before .before .before .before .before .before .before .before .before .before .before .before .before .before .before .before .before .before .before .before .before in
-    let x = c .before .before .before .before .before .before .before .before .before .before .before .before .before .before .before .enter-light in
-    let f = c .before .before .before .before .before .before .before .before .before .before .before in
-    let o = c .before .before .before .before .before .search in
-    let long = length-take-le (e .args .s .used + 1) (set (e .args .mates .now) (e .args .s .used) 0) (omega (arith, e .pre .0, e .pre .1 .mates-wide, length-set (e .args .mates .now) (e .args .s .used) 0)) in
-    seek-long (e .args .row) (e .args .s) (e .args .rows .now) (e .args .columns .now) (e .args .mates .now) (e .pre .1) (e .pre .2) (e .pre .0) (x .last .1 .1 .1 .0) (x .result) (x .ensures) (f .minus2 .result) (f .minus2 .ensures ∙ ap (minus (e .args .s .free)) (f .before .minus .ensures)) (o .result) (o .last .1 .1 .1 .1 .0) (o .last .1 .1 .1 .1 .1 .0) (o .ensures) (o .kept .1 .1 .1 .1 .0 ∙ long) ∙ sym (e .pre .1 .mates-wide)
+    let o = c .before .before .before .before .before in
+    seek-long (start o .pre) (searched o) ∙ sym (start o .pre .sits .mates-wide)
 
 returns-2 : tie.Need-returns-2
 returns-2 c =
-    let e = c .before .before .before .before .before .before .before .before .before .before .before .before .before .before .before .before .before .before .before .before .before in
-    let x = c .before .before .before .before .before .before .before .before .before .before .before .before .before .before .before .enter-light in
-    let f = c .before .before .before .before .before .before .before .before .before .before .before in
-    let o = c .before .before .before .before .before .search in
-    let long = length-take-le (e .args .s .used + 1) (set (e .args .mates .now) (e .args .s .used) 0) (omega (arith, e .pre .0, e .pre .1 .mates-wide, length-set (e .args .mates .now) (e .args .s .used) 0)) in
-    seek-lost (e .args .row) (e .args .s) (e .args .rows .now) (e .args .columns .now) (e .args .mates .now) (e .pre .1) (e .pre .2)
-    (e .pre .0) (x .last .1 .1 .1 .0) (x .result) (x .ensures) (f .minus2 .result)
-    (f .minus2 .ensures ∙ ap (minus (e .args .s .free)) (f .before .minus .ensures)) (o .result) (o .last .1 .1 .1 .1 .0)
-    (o .last .1 .1 .1 .1 .1 .0) (o .ensures) (o .kept .1 .1 .1 .1 .0 ∙ long) (c .before .before .if1 .left) (c .unreached .result)
-    (c .unreached .ensures)
+    let o = c .before .before .before .before .before in
+    seek-lost (start o .pre) (searched o) (c .before .before .if1 .left) (c .unreached .result) (c .unreached .ensures)
 
 pub seek-spec : {M : Type 1} → statement M
 seek-spec =
@@ -183,7 +143,6 @@ seek-spec =
     enter-light-requires
     add-end
     minus-requires
-    minus-requires-2
     slice-reshare-prefix-search
     slice-aggregate-search
     with-requires
