@@ -1,7 +1,7 @@
 -- Where the steps start: no row has a seat and all values below d are free. Assumes nothing.
 use Prim.Native.Nat.{ℕ, zero, suc, _-_, _^_}
 use mathlib.Core.Path.{_≡_, refl, sym, ap, _∙_}
-use mathlib.Core.Bool.{Bool}
+use mathlib.Core.Bool.{Bool, true}
 use mathlib.Core.List.{List, [], _∷_, List·Memᴰ·not-nil}
 use native.Mathlib.Nat.{suc-ne-zero}
 use native.Mathlib.Decide.{decLt}
@@ -24,7 +24,7 @@ use Rattle.theory.proofs.Enumerations.{rank-met}
 use Rattle.pairing.specs.declared.seats.Seats.{Seats}
 use Rattle.pairing.specs.Seats.{Below, Bench}
 use Rattle.minimal.specs.Marking.{NoneEmpty}
-use Rattle.distinct.specs.Steps.{InColumn, before, Pairs}
+use Rattle.distinct.specs.Steps.{InColumn, before, Pairs, offered}
 use Rattle.distinct.proofs.MarksBefore.{length-before}
 
 at-zeros : (n i : ℕ) → at (replicate n zero) i ≡ zero
@@ -76,7 +76,9 @@ module _ (d : ℕ) (view : List ℕ) (C : InColumn d view) where
       size-nil : size [] ≡ zero
       size-nil = omega (arith, size-by-rows [])
 
-  pub pairs-start : (ms : List Bool) (rows mates : List ℕ) → length ms ≡ length view → length rows ≡ seats → length mates ≡ seats → Pairs view (before zero ms) start rows (replicate mostValues zero) mates
+  pub pairs-start : (ms : List Bool) (rows mates : List ℕ) → length ms ≡ length view → length rows ≡ seats → length mates ≡ seats
+      → Pairs view (offered true zero ms) start rows (replicate mostValues zero) mates
+  unfolding offered
   pairs-start ms rows mates long rows-wide mates-wide = record {
     sits = record {
       rows-wide = rows-wide;
@@ -85,7 +87,12 @@ module _ (d : ℕ) (view : List ℕ) (C : InColumn d view) where
       bench = bench (replicate mostValues zero) (length-replicate mostValues zero) (at-zeros mostValues);
     };
     places = [];
-    stands = record { fits = length-before zero ms ∙ long; apart = tt; marked-all = λ i m. absurd (List·Memᴰ·not-nil m); ranks = ap (rank mostValues) (pick-none ms view) ∙ none };
+    stands = record {
+      fits = length-before zero ms ∙ long;
+      apart = tt;
+      marked-all = λ i m. absurd (List·Memᴰ·not-nil m);
+      ranks = ap (rank mostValues) (pick-none ms view) ∙ none;
+    };
     listed = refl;
     small = below;
   }

@@ -6,7 +6,7 @@ use mathlib.Core.List.{List, [], _∷_}
 use lib.ListN.{length, take}
 use Rattle.sets.specs.Limits.{mostValues}
 use Rattle.sets.specs.Sets.{within}
-use Rattle.theory.specs.Kept.{rowsAt}
+use Rattle.theory.specs.Kept.{rowsAt, tries}
 use Rattle.theory.specs.Pairings.{at}
 use Rattle.theory.specs.Search.{Stands}
 use Rattle.pairing.specs.declared.seats.Seats.{Seats}
@@ -35,3 +35,15 @@ pub record Pairs (view : List ℕ) (ms : List Bool) (s : Seats) (rows columns ma
   pub stands : Stands mostValues view ms places
   pub listed : take (s .used) rows ≡ rowsAt view places
   pub small : (i : ℕ) → Below (s .d) (at view i)
+
+-- ---- the rows before place n have been offered seats: those that are marked, or those that are not
+
+-- whose pairing sits on the seats: the marked rows before n; and then all marked rows
+unfoldable pub offered : Bool → ℕ → List Bool → List Bool
+offered true n ms = before n ms
+offered false n ms = ms
+
+-- the marks: as they were; and then with those of the rows that were tried and kept
+unfoldable pub marksThen : Bool → List ℕ → ℕ → List Bool → List Bool
+marksThen true view n ms = ms
+marksThen false view n ms = tries mostValues view n zero ms

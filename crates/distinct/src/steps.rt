@@ -6,15 +6,44 @@ ghost use Rattle.sets.specs.Limits.{mostValues, mostInView};
 ghost use Rattle.theory.specs.Kept.{marks, tries};
 ghost use Rattle.minimal.specs.Marking.{NoMarks};
 ghost use Rattle.pairing.specs.Seats.{seats};
-ghost use Rattle.distinct.specs.Steps.{InColumn, Places};
+ghost use Rattle.distinct.specs.Steps.{InColumn, Places, Pairs, offered, marksThen};
 use pairing::seats::Seats;
 use sheet::Sheet;
 
 // A row that has a mate sits on a seat, and there are no more mates than values.
 pub const SEATS: usize = Sheet::VALUES;
 
+// The rows whose mark is `marked` are offered seats in view order, and one that gets a seat is marked. For marked rows that changes no mark.
+fn offer_seats(
+    marked: bool,
+    view: &[u64],
+    keep: &mut [bool],
+    mut seats: Seats,
+    rows: &mut [u64],
+    columns: &mut [u64],
+    mates: &mut [usize],
+) -> Seats
+    requires { ⌜ Pairs (now view) (offered marked 0 (now keep)) seats (now rows) (now columns) (now mates) ⌝ }
+    ensures { λ r. ⌜ (now (keep .exit) ≡ marksThen marked (now (view .entry)) (length (now (view .entry))) (now (keep .entry)))
+        × Pairs (now (view .entry)) (now (keep .exit)) r (now (rows .exit)) (now (columns .exit)) (now (mates .exit)) ⌝ }
+{
+    let mut next: usize = 0;
+    while next < view.len() {
+        let i = next;
+        next += 1;
+        if keep[i] == marked {
+            let used = seats.used;
+            seats = pairing::seats::offer(view[i], seats, rows, columns, mates);
+            if used < seats.used {
+                keep[i] = true;
+            }
+        }
+    }
+    seats
+}
+
 // The second step: the marked rows get seats, a largest pairing of them; then the others are tried, and one is kept where it gets a seat.
-// It is one function because seats that go from one to another are copied, which a small view would feel.
+// Both turns are one call, so that the compiler builds it in and the seats are not copied, which a small view would feel.
 fn second_step(
     d: usize,
     view: &[u64],
@@ -37,40 +66,13 @@ fn second_step(
         fresh: all,
         heavy: 0,
     };
-    let mut next: usize = 0;
-    while next < view.len() {
-        let i = next;
-        next += 1;
-        if keep[i] {
-            let row = view[i];
-            if row & seats.free != 0 {
-                seats = pairing::seats::sit_near(row, seats, rows, columns, mates);
-            } else {
-                if !pairing::seats::hopeless(row, seats.free, seats.dead) {
-                    seats = pairing::seats::seek(row, seats, rows, columns, mates);
-                }
-            }
+    let mut marked = true;
+    loop {
+        seats = offer_seats(marked, view, keep, seats, rows, columns, mates);
+        if !marked {
+            return;
         }
-    }
-    let mut tried: usize = 0;
-    while tried < view.len() {
-        let i = tried;
-        tried += 1;
-        if !keep[i] {
-            let row = view[i];
-            if row & seats.free != 0 {
-                seats = pairing::seats::sit_near(row, seats, rows, columns, mates);
-                keep[i] = true;
-            } else {
-                if !pairing::seats::hopeless(row, seats.free, seats.dead) {
-                    let used = seats.used;
-                    seats = pairing::seats::seek(row, seats, rows, columns, mates);
-                    if used < seats.used {
-                        keep[i] = true;
-                    }
-                }
-            }
-        }
+        marked = false;
     }
 }
 

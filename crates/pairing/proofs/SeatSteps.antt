@@ -176,7 +176,7 @@ module _ {row : ℕ} {s : Seats} {rows columns mates : List ℕ} (K : Seeks row 
           ap (λ (l : List ℕ). take (s .used) (l ++ drop (s .used + 1) (matesWith s mates))) (plain .still none)
           ∙ ap (take (s .used)) (append-assoc (p S) (zero ∷ []) (drop (s .used + 1) (matesWith s mates)))
           ∙ take-at (p S) (zero ∷ drop (s .used + 1) (matesWith s mates)) (s .used)
-            (length-take-le (s .used) mates (omega (arith, S .mates-wide, K .room)))
+          (length-take-le (s .used) mates (omega (arith, S .mates-wide, K .room)))
 
       pub seek-mates : Mates (take (s .used) mates′)
       seek-mates = subst Mates (sym mates-old) (record {

@@ -180,7 +180,13 @@ fn seek(row: u64, s: Seats, rows: &mut [u64], columns: &mut [u64], mates: &mut [
 }
 
 // A row is offered a seat: it takes a free value that it holds, or is hopeless, or seeks.
-pub fn offer(row: u64, s: Seats, rows: &mut [u64], columns: &mut [u64], mates: &mut [usize]) -> Seats
+pub fn offer(
+    row: u64,
+    s: Seats,
+    rows: &mut [u64],
+    columns: &mut [u64],
+    mates: &mut [usize],
+) -> Seats
     requires { ⌜ Sitting s (now rows) (now columns) (now mates) × Below (s .d) row ⌝ }
     ensures { λ r. ⌜ OfSeat row s (now (rows .entry)) r (now (rows .exit)) (now (columns .exit)) (now (mates .exit)) ⌝ }
 {

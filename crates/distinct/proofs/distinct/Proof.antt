@@ -8,9 +8,6 @@ use Rattle.distinct.proofs.Asking.{no-marks}
 use borrow.Author.Needs.{needs}
 use Rattle.distinct.proofs.distinct.Statement.{statement}
 use Rattle.distinct.proofs.distinct.Tie as tie
-use Rattle.distinct.proofs.distinct.Reads as reads
-use Rattle.distinct.proofs.distinct.Lts as lts
-use Rattle.distinct.proofs.distinct_on.Reads as distinct-on-reads
 
 array-borrow-prefix-keep : tie.Need-array-borrow-prefix-keep
 array-borrow-prefix-keep c = search needs

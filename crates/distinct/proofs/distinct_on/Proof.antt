@@ -7,10 +7,6 @@ use Rattle.theory.specs.Kept.{positions, kept}
 use borrow.Author.Needs.{needs}
 use Rattle.distinct.proofs.distinct_on.Statement.{statement}
 use Rattle.distinct.proofs.distinct_on.Tie as tie
-use Rattle.distinct.proofs.distinct_on.Reads as reads
-use Rattle.distinct.proofs.distinct_on.Lts as lts
-use Rattle.distinct.proofs.list.list_positions.Reads as list-positions-reads
-use Rattle.distinct.proofs.steps.settle.Reads as settle-reads
 
 settle-requires : tie.Need-settle-requires
 settle-requires c κs = search needs

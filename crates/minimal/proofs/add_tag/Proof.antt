@@ -6,9 +6,6 @@ use borrow.Author.Needs.{needs}
 use Rattle.sets.specs.Limits.{wordBits}
 use Rattle.minimal.proofs.add_tag.Statement.{statement}
 use Rattle.minimal.proofs.add_tag.Tie as tie
-use Rattle.minimal.proofs.add_tag.Reads as reads
-use Rattle.minimal.proofs.add_tag.Lts as lts
-use Rattle.sets.proofs.with.Reads as with-reads
 
 mul-with : tie.Need-mul-with
 mul-with c = search needs

@@ -14,10 +14,6 @@ use Rattle.minimal.proofs.Counts.{some-ones}
 use Rattle.minimal.proofs.Links.{chains-start, sizes-start, chains-skip, sizes-skip, chains-more, sizes-more}
 use Rattle.minimal.proofs.chain.Statement.{statement}
 use Rattle.minimal.proofs.chain.Tie as tie
-use Rattle.minimal.proofs.chain.Reads as reads
-use Rattle.minimal.proofs.chain.Lts as lts
-use Rattle.minimal.proofs.repeats.Reads as repeats-reads
-use Rattle.sets.proofs.with.Reads as with-reads
 
 abbrev Inv-loop : tie.InvT-loop
 Inv-loop rows singles next₀ head₀ sizes₀ left₀ next head sizes left =

@@ -13,12 +13,6 @@ use Rattle.minimal.proofs.Counts.{marked-most}
 use Rattle.minimal.proofs.Tags.{Tagged, tagged-start, tagged-more, tested, tag-small}
 use Rattle.minimal.proofs.level.Statement.{statement}
 use Rattle.minimal.proofs.level.Tie as tie
-use Rattle.minimal.proofs.level.Reads as reads
-use Rattle.minimal.proofs.level.Lts as lts
-use Rattle.minimal.proofs.add_tag.Reads as add-tag-reads
-use Rattle.minimal.proofs.none_within.Reads as none-within-reads
-use Rattle.minimal.proofs.tag.Reads as tag-reads
-use Rattle.minimal.proofs.to_test.Reads as to-test-reads
 
 abbrev Inv-loop : tie.InvT-loop
 Inv-loop rows next head k keep₀ mins₀ found₀ base tags₀ place₀ keep mins found tags place =

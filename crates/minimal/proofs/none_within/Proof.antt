@@ -8,10 +8,6 @@ use Rattle.minimal.specs.Marking.{NoneWithin}
 use Rattle.minimal.proofs.Scans.{Tells, tells, scan-some, scan-more, scan-none, four-some, four-none}
 use Rattle.minimal.proofs.none_within.Statement.{statement}
 use Rattle.minimal.proofs.none_within.Tie as tie
-use Rattle.minimal.proofs.none_within.Reads as reads
-use Rattle.minimal.proofs.none_within.Lts as lts
-use Rattle.sets.proofs.all.Reads as all-reads
-use Rattle.sets.proofs.minus.Reads as minus-reads
 
 abbrev Inv-loop : tie.InvT-loop
 Inv-loop mins found x others next₀ next = (next ≤ found) × Tells mins others x × NoneWithin mins next x

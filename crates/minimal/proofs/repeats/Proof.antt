@@ -9,8 +9,6 @@ use Rattle.theory.specs.Pairings.{at}
 use borrow.Author.Needs.{needs}
 use Rattle.minimal.proofs.repeats.Statement.{statement}
 use Rattle.minimal.proofs.repeats.Tie as tie
-use Rattle.minimal.proofs.repeats.Reads as reads
-use Rattle.minimal.proofs.repeats.Lts as lts
 
 returns : tie.Need-returns
 returns c = (λ t. absurd (false≢true t), λ _ t. suc-ne-zero (t .0) (sym (t .1) ∙ c .if1 .taken))

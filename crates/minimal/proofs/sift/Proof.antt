@@ -7,12 +7,6 @@ use Rattle.minimal.proofs.Links.{heads-past}
 use Rattle.minimal.proofs.Sifting.{Levels, levels-start, levels-done, level-small, level-less, level-sieve, level-judged}
 use Rattle.minimal.proofs.sift.Statement.{statement}
 use Rattle.minimal.proofs.sift.Tie as tie
-use Rattle.minimal.proofs.sift.Reads as reads
-use Rattle.minimal.proofs.sift.Lts as lts
-use Rattle.minimal.proofs.chain.Reads as chain-reads
-use Rattle.minimal.proofs.level.Reads as level-reads
-use Rattle.sets.proofs.lowest.Reads as lowest-reads
-use Rattle.sets.proofs.rest.Reads as rest-reads
 
 abbrev Inv-loop : tie.InvT-loop
 Inv-loop rows singles keep₀ next mins₀ head left₀ found₀ keep mins left found = Levels rows keep mins found left × (length mins ≡ length mins₀)

@@ -3,8 +3,6 @@ use mathlib.Core.Path.{refl}
 use Rattle.minimal.specs.Marking.{tagOf}
 use Rattle.minimal.proofs.tag.Statement.{statement}
 use Rattle.minimal.proofs.tag.Tie as tie
-use Rattle.minimal.proofs.tag.Reads as reads
-use Rattle.minimal.proofs.tag.Lts as lts
 
 returns : tie.Need-returns
 unfolding tagOf

@@ -4,9 +4,6 @@ use mathlib.Core.Logic.{inl, inr}
 use borrow.Author.Needs.{needs}
 use Rattle.minimal.proofs.to_test.Statement.{statement}
 use Rattle.minimal.proofs.to_test.Tie as tie
-use Rattle.minimal.proofs.to_test.Reads as reads
-use Rattle.minimal.proofs.to_test.Lts as lts
-use Rattle.minimal.proofs.has_tag.Reads as has-tag-reads
 
 has-tag-requires : tie.Need-has-tag-requires
 has-tag-requires c κs = search needs

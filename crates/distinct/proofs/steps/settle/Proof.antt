@@ -10,10 +10,6 @@ use Rattle.distinct.proofs.Start.{column-rows, none-empty}
 use borrow.Author.Needs.{needs}
 use Rattle.distinct.proofs.steps.settle.Statement.{statement}
 use Rattle.distinct.proofs.steps.settle.Tie as tie
-use Rattle.distinct.proofs.steps.settle.Reads as reads
-use Rattle.distinct.proofs.steps.settle.Lts as lts
-use Rattle.distinct.proofs.steps.second_step.Reads as second-step-reads
-use Rattle.minimal.proofs.mark_minimal.Reads as mark-minimal-reads
 
 mark-minimal-requires : tie.Need-mark-minimal-requires
 mark-minimal-requires c κs =

@@ -6,9 +6,6 @@ use Rattle.sets.proofs.Subsets.{subset-has}
 use borrow.Author.Needs.{needs}
 use Rattle.pairing.proofs.seats.hopeless.Statement.{statement}
 use Rattle.pairing.proofs.seats.hopeless.Tie as tie
-use Rattle.pairing.proofs.seats.hopeless.Reads as reads
-use Rattle.pairing.proofs.seats.hopeless.Lts as lts
-use Rattle.sets.proofs.subset.Reads as subset-reads
 
 returns : tie.Need-returns
 returns c = record { why = λ _. inr (c .if1 .taken); some = λ f. absurd (true≢false f) }

@@ -7,9 +7,6 @@ use Rattle.pairing.proofs.SeatSteps.{near-value}
 use borrow.Author.Needs.{needs}
 use Rattle.pairing.proofs.seats.near.Statement.{statement}
 use Rattle.pairing.proofs.seats.near.Tie as tie
-use Rattle.pairing.proofs.seats.near.Reads as reads
-use Rattle.pairing.proofs.seats.near.Lts as lts
-use Rattle.sets.proofs.lowest.Reads as lowest-reads
 
 lowest-requires : tie.Need-lowest-requires
 lowest-requires c κs = search needs

@@ -1,6 +1,5 @@
 -- `offer` meets its contract. Assumes nothing.
 use borrow.Author.Needs.{needs}
-use borrow.Author.Tests.{not-true}
 use Rattle.pairing.proofs.SeatSteps.{seat-passed, seat-room}
 use Rattle.pairing.proofs.seats.offer.Statement.{statement}
 use Rattle.pairing.proofs.seats.offer.Tie as tie

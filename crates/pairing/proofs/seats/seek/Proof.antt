@@ -2,7 +2,7 @@
 use mathlib.Core.Path.{refl, sym, _∙_}
 use native.Mathlib.Omega.{arith}
 use lib.Seq.{length-take-le}
-use Rattle.pairing.proofs.SeatSteps.{Searched, rows-long, mates-long, rows-next, mates-next, seek-index, seek-searches}
+use Rattle.pairing.proofs.SeatSteps.{Searched, rows-next, mates-next, seek-index, seek-searches}
 use Rattle.pairing.proofs.SeatSteps.{seek-long, seek-found, seek-mates, seek-lost}
 use borrow.Author.Needs.{needs}
 use Rattle.pairing.proofs.seats.seek.Statement.{statement}

@@ -12,11 +12,10 @@ use Rattle.pairing.proofs.seats.sit_near.Tie as tie
 near-requires : tie.Need-near-requires
 near-requires c κs =
     let e = c .before .before .before in
-    let s = e .args .s in
-    (
+    let s = e .args .s in (
       e .pre .2,
       fresh-free s (take (s .used) (e .args .rows .now)) (e .args .columns .now) (take (s .used) (e .args .mates .now)) (e .pre .0 .bench)
-      (e .args .row) (e .pre .1),
+          (e .args .row) (e .pre .1),
     )
 
 -- a value is free, so there is room
