@@ -64,7 +64,7 @@ unasked-falls (suc n) a b i h f t sub = elim (ℕ-discrete i n) [
 
 -- ---- row i is asked to take v
 
-module _ (v : ℕ) (rows columns : List ℕ) (heavy : ℕ) (p : List ℕ) (A : Asks v rows columns heavy p) (i : ℕ) (h : i < length rows)
+module _ {v : ℕ} {rows columns : List ℕ} {heavy : ℕ} {p : List ℕ} (A : Asks v rows columns heavy p) (i : ℕ) (h : i < length rows)
     (holds : has (at rows i) v ≡ true) where
   P : Pairing mostValues rows p
   P = A .pairing
@@ -111,7 +111,7 @@ module _ (v : ℕ) (rows columns : List ℕ) (heavy : ℕ) (p : List ℕ) (A : A
   })
 
   -- row i's mate is w, which is without a row now
-  module _ (w : ℕ) (mate : at p i ≡ suc w) where
+  module _ {w : ℕ} (mate : at p i ≡ suc w) where
     not-v : w ≢ v
     not-v e = A .new (i, mate ∙ ap suc e)
 
@@ -145,7 +145,10 @@ module _ (v : ℕ) (rows columns : List ℕ) (heavy : ℕ) (p : List ℕ) (A : A
       where
         -- w is not dead, since its row holds v
         alive : (dead : ℕ) → Shut rows p dead → has dead v ≡ false → has dead w ≡ true → ⊥
-        alive dead S n e = let k = S w e in let same : k .0 ≡ i = P .apart (k .0) i w (k .1) mate in not-both (k .2 v (ap (λ (j : ℕ). has (at rows j) v) same ∙ holds)) n
+        alive dead S n e =
+            let k = S w e in
+            let same : k .0 ≡ i = P .apart (k .0) i w (k .1) mate in
+            not-both (k .2 v (ap (λ (j : ℕ). has (at rows j) v) same ∙ holds)) n
 
         keep : (dead : ℕ) → Shut rows p dead → has dead v ≡ false → Shut rows p′ dead
         keep dead S n = elim (true-or-false (has dead w)) [
@@ -156,10 +159,10 @@ module _ (v : ℕ) (rows columns : List ℕ) (heavy : ℕ) (p : List ℕ) (A : A
               (k .0, at-other p i (suc v) (k .0) other ∙ k .1, k .2)) f
         ]
 
-    pub row-moved : (r : Bool) (asked : ℕ) (p′ : List ℕ) (asked′ : ℕ) → OfValue r w rows (set p i (v + 1)) asked p′ asked′ → r ≡ true
+    pub row-moved : {r : Bool} {asked : ℕ} {p′ : List ℕ} {asked′ : ℕ} → OfValue r w rows (set p i (v + 1)) asked p′ asked′ → r ≡ true
         → OfRow true i v rows p asked p′ asked′
     unfolding p₁
-    row-moved r asked p′ asked′ O t = record {
+    row-moved {p′ = p′} O t = record {
       more = O .more;
       found = λ _. moved p′ (subst (λ (x : ℕ). Grown rows w (set p i x) p′) (add-one v) (O .found t));
       stuck = λ f. absurd (true≢false f);
@@ -167,10 +170,10 @@ module _ (v : ℕ) (rows columns : List ℕ) (heavy : ℕ) (p : List ℕ) (A : A
     }
 
     -- w has found none, and stays
-    pub row-stays : (r : Bool) (asked : ℕ) (p′ : List ℕ) (asked′ : ℕ) → has asked i ≡ true
+    pub row-stays : {r : Bool} {asked : ℕ} {p′ : List ℕ} {asked′ : ℕ} → has asked i ≡ true
         → OfValue r w rows (set p i (v + 1)) asked p′ asked′ → r ≡ false
         → OfRow false i v rows p asked (set p′ i (at p i)) asked′
-    row-stays r asked p′ asked′ a O f = record {
+    row-stays {asked = asked} {p′ = p′} {asked′ = asked′} a O f = record {
       more = O .more;
       found = λ t. absurd (false≢true t);
       stuck = λ _. record { still = back; closed = λ j t n. close j t n };
@@ -198,10 +201,10 @@ pub record Turn (v : ℕ) (rows p : List ℕ) (asked : ℕ) (p′ : List ℕ) (a
   pub remain : (i : ℕ) → has (at rows i) v ≡ true → (has asked′ i ≡ true) ⊎ (has left i ≡ true)
   pub inside : (i : ℕ) → has left i ≡ true → i < length rows
 
-module _ (v : ℕ) (rows p : List ℕ) (asked : ℕ) where
-  pub turn-start : (columns : List ℕ) (heavy : ℕ) → Index rows columns heavy → bitOr (at columns v) heavy < 2 ^ wordBits
+module _ {v : ℕ} {rows p : List ℕ} {asked : ℕ} where
+  pub turn-start : {columns : List ℕ} {heavy : ℕ} → Index rows columns heavy → bitOr (at columns v) heavy < 2 ^ wordBits
       → Turn v rows p asked p asked (bitOr (at columns v) heavy)
-  turn-start columns heavy X word = record {
+  turn-start X word = record {
     word = word;
     more = λ i t. t;
     stuck = record { still = refl; closed = λ i t n. absurd (not-both t n) };
@@ -209,9 +212,9 @@ module _ (v : ℕ) (rows p : List ℕ) (asked : ℕ) where
     inside = λ i t. X .inside i v t;
   }
 
-  module _ (p′ : List ℕ) (asked′ left : ℕ) (T : Turn v rows p asked p′ asked′ left) where
+  module _ {p′ : List ℕ} {asked′ left : ℕ} (T : Turn v rows p asked p′ asked′ left) where
     -- what `top` says of the rows left to ask, which are `some`
-    module _ (some r : ℕ) (is : some ≡ minus left asked′) (top : r ≡ wordBits - leadingZeros wordBits some) where
+    module _ {some r : ℕ} (is : some ≡ minus left asked′) (top : r ≡ wordBits - leadingZeros wordBits some) where
       word : some < 2 ^ wordBits
       word = subst (λ (x : ℕ). x < 2 ^ wordBits) (sym is) (minus-word wordBits left asked′ (T .word))
 
@@ -268,7 +271,7 @@ module _ (v : ℕ) (rows p : List ℕ) (asked : ℕ) where
         inside = λ j l. T .inside j (minus-out left (single i) j l .0);
       }
 
-      module _ (r : Bool) (p″ : List ℕ) (asked″ : ℕ) (O : OfRow r i v rows p′ (bitOr asked′ (single i)) p″ asked″) where
+      module _ {r : Bool} {p″ : List ℕ} {asked″ : ℕ} (O : OfRow r i v rows p′ (bitOr asked′ (single i)) p″ asked″) where
         -- row i has taken v
         pub turn-found : r ≡ true → OfValue true v rows p asked p″ asked″
         turn-found t = record {

@@ -159,7 +159,7 @@ module _ (s : Seats) (R columns p : List ℕ) (B : Bench s R columns p) where
     pub bench-direct : (v : ℕ) → has (s .free) v ≡ true → has row v ≡ true → Grown (R ++ row ∷ []) v (p ++ zero ∷ []) (p ++ (v + 1) ∷ [])
     bench-direct v t h =
         subst (Grown (R ++ row ∷ []) v (p ++ zero ∷ [])) put
-        (row-free v (R ++ row ∷ []) columns (bitOr (s .heavy) (single (length R))) (p ++ zero ∷ []) asks (length R) last (ap (λ (r : ℕ). has r v) (row-last R row) ∙ h) free-seat)
+        (row-free asks (length R) last (ap (λ (r : ℕ). has r v) (row-last R row) ∙ h) free-seat)
       where
         S : Searches (s .free) (R ++ row ∷ []) columns (bitOr (s .heavy) (single (length R))) (p ++ zero ∷ [])
         S = bench-searches columns (s .heavy) (seat-left v t) (B .index)

@@ -2,18 +2,18 @@
 -- The number that falls is that of the rows not asked yet. Assumes nothing.
 use borrow.Author.Needs.{needs}
 use mathlib.Core.Path.{_≡_, sym, ap, subst, _∙_}
-use Prim.Native.Nat.{suc, _+_, _*_, _-_}
+use mathlib.Core.Bool.{true}
+use Prim.Native.Nat.{ℕ, suc, _+_, _*_, _-_, _<_}
 use native.Mathlib.Omega.{arith}
-use lib.Bits.{or-lt}
+use lib.Bits.{bitOr, or-lt}
 use lib.ListN.{length, length-set}
 use Rattle.sets.specs.Limits.{wordBits}
-use Rattle.sets.specs.Sets.{has}
+use Rattle.sets.specs.Sets.{has, single, minus}
 use Rattle.sets.proofs.Values.{with-new}
 use Rattle.theory.specs.Pairings.{at}
 use Rattle.pairing.specs.Asking.{unasked, Asks, OfRow}
 use Rattle.pairing.proofs.AskSteps.{Turn, row-takes, row-asks, row-moved, row-stays, turn-start, turn-next, turn-none}
 use Rattle.pairing.proofs.AskSteps.{turn-end, turn-row, turn-less, turn-falls, turn-pass, turn-found, turn-again}
-use Prim.Native.Nat.{ℕ, _<_}
 use borrow.Fn.Kinds.{In}
 use borrow.Fn.PlainCycle.{Measures, is, falls, and}
 use Rattle.pairing.proofs.search.ask_row.Reads as ask-row
@@ -49,555 +49,237 @@ abbrev ask-value-below : ℕ → In 4 ask-value-kinds.ps
 ask-value-below t =
     and 4 ask-value-kinds.ps (falls 4 ask-value-kinds.ps _<_ μ-ask-value t) ask-value.Pre
 
-ask-row-mul-w :
-    (t : ℕ) →
-    ask-row-lts.Need-mul-w (ask-value-below t, ask-value.Post) (ask-row-at t) ask-row.Post
-ask-row-mul-w t c = search needs
-
-ask-row-slice-read-w :
-    (t : ℕ) →
-    ask-row-lts.Need-slice-read-w (ask-value-below t, ask-value.Post) (ask-row-at t) ask-row.Post
-ask-row-slice-read-w t c =
-    let e = c .before .before .before .before in
-    omega (arith, e .pre .1 .0 .pairing .fits)
-
-ask-row-add-mates :
-    (t : ℕ) →
-    ask-row-lts.Need-add-mates (ask-value-below t, ask-value.Post) (ask-row-at t) ask-row.Post
-ask-row-add-mates t c = search needs
-
-ask-row-mul-mates :
-    (t : ℕ) →
-    ask-row-lts.Need-mul-mates (ask-value-below t, ask-value.Post) (ask-row-at t) ask-row.Post
-ask-row-mul-mates t c = search needs
-
-ask-row-slice-write-mates : (t : ℕ) → ask-row-lts.Need-slice-write-mates (
-  ask-value-below t,
-  ask-value.Post,
-) (ask-row-at t) ask-row.Post
-ask-row-slice-write-mates t c =
-    let e = c .before .before .before .before in
-    omega (arith, e .pre .1 .0 .pairing .fits)
-
-ask-row-same-length :
-    (t : ℕ) →
-    ask-row-lts.Need-same-length (ask-value-below t, ask-value.Post) (ask-row-at t) ask-row.Post
-ask-row-same-length t c =
-    let e = c .before .before .before .before .before in
-    length-set (e .args .mates .now) (e .args .i) (e .args .v + 1)
-
-ask-row-returns :
-    (t : ℕ) →
-    ask-row-lts.Need-returns (ask-value-below t, ask-value.Post) (ask-row-at t) ask-row.Post
-ask-row-returns t c =
-    let e = c .before .before .before .before .before in
-    row-takes (e .args .v) (e .args .rows .now) (e .args .columns .now) (e .args .heavy) (e .args .mates .now) (e .pre .1 .0) (e .args .i)
-    (e .pre .1 .1 .0) (e .pre .1 .1 .1) (e .args .asked .now) (c .if1 .taken)
-
-ask-row-sub-ask-value : (t : ℕ) → ask-row-lts.Need-sub-ask-value (
-  ask-value-below t,
-  ask-value.Post,
-) (ask-row-at t) ask-row.Post
-ask-row-sub-ask-value t c = omega (arith, c .if1 .left)
-
-ask-row-ask-value-requires : (t : ℕ) → ask-row-lts.Need-ask-value-requires (
-  ask-value-below t,
-  ask-value.Post,
-) (ask-row-at t) ask-row.Post
-ask-row-ask-value-requires t c κs =
-    let e = c .before .before .before .before .before .before .before in
-    let w = at (e .args .mates .now) (e .args .i) - 1 in
-    let mate : at (e .args .mates .now) (e .args .i) ≡ suc w = omega (arith, c .before .before .if1 .left) in
-    (omega arith, row-asks (e .args .v) (e .args .rows .now) (e .args .columns .now) (e .args .heavy) (e .args .mates .now) (e .pre .1 .0) (e .args .i) (e .pre .1 .1 .0) (e .pre .1 .1 .1) w mate)
-
-ask-row-same-length-2 : (t : ℕ) → ask-row-lts.Need-same-length-2 (
-  ask-value-below t,
-  ask-value.Post,
-) (ask-row-at t) ask-row.Post
-ask-row-same-length-2 t c =
-    let e = c .before .before .before .before .before .before .before .before .before .before .before in
-    let o = c .before .before .before .ask-value in
-    o .kept .1 .1 .1 .1 .0 ∙ length-set (e .args .mates .now) (e .args .i) (e .args .v + 1)
-
-ask-row-returns-2 :
-    (t : ℕ) →
-    ask-row-lts.Need-returns-2 (ask-value-below t, ask-value.Post) (ask-row-at t) ask-row.Post
-ask-row-returns-2 t c =
-    let e = c .before .before .before .before .before .before .before .before .before .before .before in
-    let o = c .before .before .before .ask-value in
-    let w = at (e .args .mates .now) (e .args .i) - 1 in
-    let mate : at (e .args .mates .now) (e .args .i) ≡ suc w = omega (arith, c .before .before .before .before .before .before .if1 .left) in
-    row-moved (e .args .v) (e .args .rows .now) (e .args .columns .now) (e .args .heavy) (e .args .mates .now) (e .pre .1 .0) (e .args .i)
-    (e .pre .1 .1 .0) (e .pre .1 .1 .1) w mate (o .result) (e .args .asked .now) (o .last .1 .1 .1 .1 .0) (o .last .1 .1 .1 .1 .1 .0)
-    (o .ensures) (c .if2 .taken)
-
-ask-row-mul-mates-2 :
-    (t : ℕ) →
-    ask-row-lts.Need-mul-mates-2 (ask-value-below t, ask-value.Post) (ask-row-at t) ask-row.Post
-ask-row-mul-mates-2 t c = search needs
-
-ask-row-slice-write-mates-2 : (t : ℕ) → ask-row-lts.Need-slice-write-mates-2 (
-  ask-value-below t,
-  ask-value.Post,
-) (ask-row-at t) ask-row.Post
-ask-row-slice-write-mates-2 t c =
-    let e = c .before .before .before .before .before .before .before .before .before .before .before in
-    let o = c .before .before .before .ask-value in
-    omega (arith, e .pre .1 .0 .pairing .fits, o .kept .1 .1 .1 .1 .0, length-set (e .args .mates .now) (e .args .i) (e .args .v + 1))
-
-ask-row-same-length-3 : (t : ℕ) → ask-row-lts.Need-same-length-3 (
-  ask-value-below t,
-  ask-value.Post,
-) (ask-row-at t) ask-row.Post
-ask-row-same-length-3 t c =
-    let e = c .before .before .before .before .before .before .before .before .before .before .before in
-    let o = c .before .before .before .ask-value in
-    length-set (o .last .1 .1 .1 .1 .0) (e .args .i) (at (e .args .mates .now) (e .args .i)) ∙ o .kept .1 .1 .1 .1 .0
-    ∙ length-set (e .args .mates .now) (e .args .i) (e .args .v + 1)
-
-ask-row-returns-3 :
-    (t : ℕ) →
-    ask-row-lts.Need-returns-3 (ask-value-below t, ask-value.Post) (ask-row-at t) ask-row.Post
-ask-row-returns-3 t c =
-    let e = c .before .before .before .before .before .before .before .before .before .before .before in
-    let o = c .before .before .before .ask-value in
-    let w = at (e .args .mates .now) (e .args .i) - 1 in
-    let mate : at (e .args .mates .now) (e .args .i) ≡ suc w = omega (arith, c .before .before .before .before .before .before .if1 .left) in
-    row-stays (e .args .v) (e .args .rows .now) (e .args .columns .now) (e .args .heavy) (e .args .mates .now) (e .pre .1 .0) (e .args .i)
-    (e .pre .1 .1 .0) (e .pre .1 .1 .1) w mate (o .result) (e .args .asked .now) (o .last .1 .1 .1 .1 .0) (o .last .1 .1 .1 .1 .1 .0)
-    (e .pre .1 .1 .2) (o .ensures) (c .if2 .left)
-
 abbrev ask-value-Inv-loop : ask-value-lts.InvT-loop
 ask-value-Inv-loop v rows columns heavy mates₀ asked₀ left₀ mates asked left = Turn v rows mates₀ asked₀ mates asked left
 
 abbrev ask-value-μ-loop : ask-value-lts.MeasureT-loop
 ask-value-μ-loop v rows columns heavy mates₀ asked₀ left₀ mates asked left = left
 
-ask-value-mul-left : (t : ℕ) → ask-value-lts.Need-mul-left (
-  minus-reads.Asked,
-  minus-reads.Learnt,
-  top-reads.Asked,
-  top-reads.Learnt,
-  without-reads.Asked,
-  without-reads.Learnt,
-  has-reads.Asked,
-  has-reads.Learnt,
-  with-reads.Asked,
-  with-reads.Learnt,
-  ask-row-below t,
-  ask-row.Post,
-) (ask-value-at t) ask-value.Post ask-value-Inv-loop ask-value-μ-loop
-ask-value-mul-left t c = search needs
+module _ (t : ℕ) where
+  -- ---- row i is asked to take v
 
-ask-value-shared-slice-read-left : (t : ℕ) → ask-value-lts.Need-shared-slice-read-left (
-  minus-reads.Asked,
-  minus-reads.Learnt,
-  top-reads.Asked,
-  top-reads.Learnt,
-  without-reads.Asked,
-  without-reads.Learnt,
-  has-reads.Asked,
-  has-reads.Learnt,
-  with-reads.Asked,
-  with-reads.Learnt,
-  ask-row-below t,
-  ask-row.Post,
-) (ask-value-at t) ask-value.Post ask-value-Inv-loop ask-value-μ-loop
-ask-value-shared-slice-read-left t c =
-    let e = c .before .before .before .before in
-    omega (arith, e .pre .1 .small, e .pre .1 .index .wide)
+  -- what it relies on
+  abbrev row-claims : ask-row-lts.Claims
+  row-claims = (ask-value-below t, ask-value.Post)
 
-ask-value-loop-holds : (t : ℕ) → ask-value-lts.Need-loop-holds (
-  minus-reads.Asked,
-  minus-reads.Learnt,
-  top-reads.Asked,
-  top-reads.Learnt,
-  without-reads.Asked,
-  without-reads.Learnt,
-  has-reads.Asked,
-  has-reads.Learnt,
-  with-reads.Asked,
-  with-reads.Learnt,
-  ask-row-below t,
-  ask-row.Post,
-) (ask-value-at t) ask-value.Post ask-value-Inv-loop ask-value-μ-loop
-ask-value-loop-holds t c =
-    let e = c .before .before .before .before in
-    turn-start (e .args .v) (e .args .rows .now) (e .args .mates .now) (e .args .asked .now) (e .args .columns .now) (e .args .heavy)
-    (e .pre .1 .index)
-    (or-lt wordBits (at (e .args .columns .now) (e .args .v)) (e .args .heavy) (c .shared-slice-known3 .given (e .args .v) .fits) (e .fits .heavy .fits))
+  -- the entry, seen from the place where its present value has asked
+  abbrev ValueAsked : Type 0
+  ValueAsked = ask-row-lts.After-ask-value row-claims (ask-row-at t) ask-row.Post
 
-ask-value-minus-requires : (t : ℕ) → ask-value-lts.Need-minus-requires (
-  minus-reads.Asked,
-  minus-reads.Learnt,
-  top-reads.Asked,
-  top-reads.Learnt,
-  without-reads.Asked,
-  without-reads.Learnt,
-  has-reads.Asked,
-  has-reads.Learnt,
-  with-reads.Asked,
-  with-reads.Learnt,
-  ask-row-below t,
-  ask-row.Post,
-) (ask-value-at t) ask-value.Post ask-value-Inv-loop ask-value-μ-loop
-ask-value-minus-requires t c κs = search needs
+  abbrev row-start : ValueAsked → ask-row-lts.Start row-claims (ask-row-at t) ask-row.Post
+  row-start c = c .before .before .before .before .before .before .before .before
 
-ask-value-top-requires : (t : ℕ) → ask-value-lts.Need-top-requires (
-  minus-reads.Asked,
-  minus-reads.Learnt,
-  top-reads.Asked,
-  top-reads.Learnt,
-  without-reads.Asked,
-  without-reads.Learnt,
-  has-reads.Asked,
-  has-reads.Learnt,
-  with-reads.Asked,
-  with-reads.Learnt,
-  ask-row-below t,
-  ask-row.Post,
-) (ask-value-at t) ask-value.Post ask-value-Inv-loop ask-value-μ-loop
-ask-value-top-requires t c κs = search needs
+  -- its present value
+  present : (c : ValueAsked) → at (row-start c .args .mates .now) (row-start c .args .i) ≡ suc (at (row-start c .args .mates .now) (row-start c .args .i) - 1)
+  present c = omega (arith, c .before .before .before .if1 .left)
 
-ask-value-same-length : (t : ℕ) → ask-value-lts.Need-same-length (
-  minus-reads.Asked,
-  minus-reads.Learnt,
-  top-reads.Asked,
-  top-reads.Learnt,
-  without-reads.Asked,
-  without-reads.Learnt,
-  has-reads.Asked,
-  has-reads.Learnt,
-  with-reads.Asked,
-  with-reads.Learnt,
-  ask-row-below t,
-  ask-row.Post,
-) (ask-value-at t) ask-value.Post ask-value-Inv-loop ask-value-μ-loop
-ask-value-same-length t c =
-    let e = c .before .before .before .before .before .before .before .before in
-    let l = c .before .before .before .loop in
-    let k = c in
-    ap length (l .inv .stuck .still)
+  ask-row-mul-w : ask-row-lts.Need-mul-w row-claims (ask-row-at t) ask-row.Post
+  ask-row-mul-w c = search needs
 
-ask-value-returns : (t : ℕ) → ask-value-lts.Need-returns (
-  minus-reads.Asked,
-  minus-reads.Learnt,
-  top-reads.Asked,
-  top-reads.Learnt,
-  without-reads.Asked,
-  without-reads.Learnt,
-  has-reads.Asked,
-  has-reads.Learnt,
-  with-reads.Asked,
-  with-reads.Learnt,
-  ask-row-below t,
-  ask-row.Post,
-) (ask-value-at t) ask-value.Post ask-value-Inv-loop ask-value-μ-loop
-ask-value-returns t c =
-    let e = c .before .before .before .before .before .before .before .before in
-    let l = c .before .before .before .loop in
-    let k = c in
-    turn-end (e .args .v) (e .args .rows .now) (e .args .mates .now) (e .args .asked .now) (l .mates) (l .asked) (l .left) (l .inv) (turn-none (e .args .v) (e .args .rows .now) (e .args .mates .now) (e .args .asked .now) (l .mates) (l .asked) (l .left) (l .inv) (k .before .before .minus .result) (k .before .top .result) (k .before .before .minus .ensures) (k .before .top .ensures) (k .if1 .taken))
+  ask-row-slice-read-w : ask-row-lts.Need-slice-read-w row-claims (ask-row-at t) ask-row.Post
+  ask-row-slice-read-w c = omega (arith, c .before .before .before .before .pre .1 .0 .pairing .fits)
 
-ask-value-sub-i : (t : ℕ) → ask-value-lts.Need-sub-i (
-  minus-reads.Asked,
-  minus-reads.Learnt,
-  top-reads.Asked,
-  top-reads.Learnt,
-  without-reads.Asked,
-  without-reads.Learnt,
-  has-reads.Asked,
-  has-reads.Learnt,
-  with-reads.Asked,
-  with-reads.Learnt,
-  ask-row-below t,
-  ask-row.Post,
-) (ask-value-at t) ask-value.Post ask-value-Inv-loop ask-value-μ-loop
-ask-value-sub-i t c = omega (arith, c .if1 .left)
+  ask-row-add-mates : ask-row-lts.Need-add-mates row-claims (ask-row-at t) ask-row.Post
+  ask-row-add-mates c = search needs
 
-ask-value-without-requires : (t : ℕ) → ask-value-lts.Need-without-requires (
-  minus-reads.Asked,
-  minus-reads.Learnt,
-  top-reads.Asked,
-  top-reads.Learnt,
-  without-reads.Asked,
-  without-reads.Learnt,
-  has-reads.Asked,
-  has-reads.Learnt,
-  with-reads.Asked,
-  with-reads.Learnt,
-  ask-row-below t,
-  ask-row.Post,
-) (ask-value-at t) ask-value.Post ask-value-Inv-loop ask-value-μ-loop
-ask-value-without-requires t c κs =
-    let e = c .before .before .before .before .before .before .before .before in
-    let l = c .before .before .before .loop in
-    let k = c in
-    let next = turn-next (e .args .v) (e .args .rows .now) (e .args .mates .now) (e .args .asked .now) (l .mates) (l .asked) (l .left) (l .inv) (k .before .before .minus .result) (k .before .top .result) (k .before .before .minus .ensures) (k .before .top .ensures) (k .if1 .left) in
-    next .0
+  ask-row-mul-mates : ask-row-lts.Need-mul-mates row-claims (ask-row-at t) ask-row.Post
+  ask-row-mul-mates c = search needs
 
-ask-value-mul-has : (t : ℕ) → ask-value-lts.Need-mul-has (
-  minus-reads.Asked,
-  minus-reads.Learnt,
-  top-reads.Asked,
-  top-reads.Learnt,
-  without-reads.Asked,
-  without-reads.Learnt,
-  has-reads.Asked,
-  has-reads.Learnt,
-  with-reads.Asked,
-  with-reads.Learnt,
-  ask-row-below t,
-  ask-row.Post,
-) (ask-value-at t) ask-value.Post ask-value-Inv-loop ask-value-μ-loop
-ask-value-mul-has t c = search needs
+  ask-row-slice-write-mates : ask-row-lts.Need-slice-write-mates row-claims (ask-row-at t) ask-row.Post
+  ask-row-slice-write-mates c = omega (arith, c .before .before .before .before .pre .1 .0 .pairing .fits)
 
-ask-value-shared-slice-read-has : (t : ℕ) → ask-value-lts.Need-shared-slice-read-has (
-  minus-reads.Asked,
-  minus-reads.Learnt,
-  top-reads.Asked,
-  top-reads.Learnt,
-  without-reads.Asked,
-  without-reads.Learnt,
-  has-reads.Asked,
-  has-reads.Learnt,
-  with-reads.Asked,
-  with-reads.Learnt,
-  ask-row-below t,
-  ask-row.Post,
-) (ask-value-at t) ask-value.Post ask-value-Inv-loop ask-value-μ-loop
-ask-value-shared-slice-read-has t c =
-    let e = c .before .before .before .before .before .before .before .before .before .before in
-    let l = c .before .before .before .before .before .loop in
-    let k = c .before .before in
-    let next = turn-next (e .args .v) (e .args .rows .now) (e .args .mates .now) (e .args .asked .now) (l .mates) (l .asked) (l .left) (l .inv) (k .before .before .minus .result) (k .before .top .result) (k .before .before .minus .ensures) (k .before .top .ensures) (k .if1 .left) in
-    turn-row (e .args .v) (e .args .rows .now) (e .args .mates .now) (e .args .asked .now) (l .mates) (l .asked) (l .left) (l .inv)
-    (k .before .top .result - 1) (next .1)
+  ask-row-same-length : ask-row-lts.Need-same-length row-claims (ask-row-at t) ask-row.Post
+  ask-row-same-length c = simp length-set
 
-ask-value-has-requires : (t : ℕ) → ask-value-lts.Need-has-requires (
-  minus-reads.Asked,
-  minus-reads.Learnt,
-  top-reads.Asked,
-  top-reads.Learnt,
-  without-reads.Asked,
-  without-reads.Learnt,
-  has-reads.Asked,
-  has-reads.Learnt,
-  with-reads.Asked,
-  with-reads.Learnt,
-  ask-row-below t,
-  ask-row.Post,
-) (ask-value-at t) ask-value.Post ask-value-Inv-loop ask-value-μ-loop
-ask-value-has-requires t c κs = search needs
+  ask-row-returns : ask-row-lts.Need-returns row-claims (ask-row-at t) ask-row.Post
+  ask-row-returns c =
+      let e = c .before .before .before .before .before in
+      row-takes (e .pre .1 .0) (e .args .i) (e .pre .1 .1 .0) (e .pre .1 .1 .1) (e .args .asked .now) (c .if1 .taken)
 
-ask-value-with-requires : (t : ℕ) → ask-value-lts.Need-with-requires (
-  minus-reads.Asked,
-  minus-reads.Learnt,
-  top-reads.Asked,
-  top-reads.Learnt,
-  without-reads.Asked,
-  without-reads.Learnt,
-  has-reads.Asked,
-  has-reads.Learnt,
-  with-reads.Asked,
-  with-reads.Learnt,
-  ask-row-below t,
-  ask-row.Post,
-) (ask-value-at t) ask-value.Post ask-value-Inv-loop ask-value-μ-loop
-ask-value-with-requires t c κs =
-    let e = c .before .before .before .before .before .before .before .before .before .before .before .before .before in
-    let l = c .before .before .before .before .before .before .before .before .loop in
-    let k = c .before .before .before .before .before in
-    let next = turn-next (e .args .v) (e .args .rows .now) (e .args .mates .now) (e .args .asked .now) (l .mates) (l .asked) (l .left) (l .inv) (k .before .before .minus .result) (k .before .top .result) (k .before .before .minus .ensures) (k .before .top .ensures) (k .if1 .left) in
-    next .0
+  ask-row-sub-ask-value : ask-row-lts.Need-sub-ask-value row-claims (ask-row-at t) ask-row.Post
+  ask-row-sub-ask-value c = omega (arith, c .if1 .left)
 
-ask-value-ask-row-requires : (t : ℕ) → ask-value-lts.Need-ask-row-requires (
-  minus-reads.Asked,
-  minus-reads.Learnt,
-  top-reads.Asked,
-  top-reads.Learnt,
-  without-reads.Asked,
-  without-reads.Learnt,
-  has-reads.Asked,
-  has-reads.Learnt,
-  with-reads.Asked,
-  with-reads.Learnt,
-  ask-row-below t,
-  ask-row.Post,
-) (ask-value-at t) ask-value.Post ask-value-Inv-loop ask-value-μ-loop
-ask-value-ask-row-requires t c κs =
-    let e = c .before .before .before .before .before .before .before .before .before .before .before .before .before .before .before .before in
-    let l = c .before .before .before .before .before .before .before .before .before .before .before .loop in
-    let k = c .before .before .before .before .before .before .before .before in
-    let next = turn-next (e .args .v) (e .args .rows .now) (e .args .mates .now) (e .args .asked .now) (l .mates) (l .asked) (l .left) (l .inv) (k .before .before .minus .result) (k .before .top .result) (k .before .before .minus .ensures) (k .before .top .ensures) (k .if1 .left) in
-    let i = k .before .top .result - 1 in
-    let with = c .before .before .with in (
-      omega (
-        arith,
-        turn-falls (e .args .v) (e .args .rows .now) (e .args .mates .now) (e .args .asked .now) (l .mates) (l .asked) (l .left) (l .inv) i (next .1) (e .pre .1 .few),
-        ap (unasked wordBits) (with .ensures),
-      ),
-      (
-        subst (Asks (e .args .v) (e .args .rows .now) (e .args .columns .now) (e .args .heavy)) (sym (l .inv .stuck .still)) (e .pre .1),
+  ask-row-ask-value-requires : ask-row-lts.Need-ask-value-requires row-claims (ask-row-at t) ask-row.Post
+  ask-row-ask-value-requires c κs =
+      let e = c .before .before .before .before .before .before .before in
+      let mate : at (e .args .mates .now) (e .args .i) ≡ suc (at (e .args .mates .now) (e .args .i) - 1) = omega (arith, c .before .before .if1 .left) in
+      (omega arith, row-asks (e .pre .1 .0) (e .args .i) (e .pre .1 .1 .0) (e .pre .1 .1 .1) mate)
+
+  ask-row-same-length-2 : ask-row-lts.Need-same-length-2 row-claims (ask-row-at t) ask-row.Post
+  ask-row-same-length-2 c = c .before .before .before .ask-value .kept .1 .1 .1 .1 .0 ∙ simp length-set
+
+  ask-row-returns-2 : ask-row-lts.Need-returns-2 row-claims (ask-row-at t) ask-row.Post
+  ask-row-returns-2 c =
+      let o = c .before .before .before in
+      let e = row-start o in
+      row-moved (e .pre .1 .0) (e .args .i) (e .pre .1 .1 .0) (e .pre .1 .1 .1) (present o) (o .ask-value .ensures) (c .if2 .taken)
+
+  ask-row-mul-mates-2 : ask-row-lts.Need-mul-mates-2 row-claims (ask-row-at t) ask-row.Post
+  ask-row-mul-mates-2 c = search needs
+
+  ask-row-slice-write-mates-2 : ask-row-lts.Need-slice-write-mates-2 row-claims (ask-row-at t) ask-row.Post
+  ask-row-slice-write-mates-2 c =
+      let o = c .before .before .before in
+      let e = row-start o in
+      omega (arith, e .pre .1 .0 .pairing .fits, o .ask-value .kept .1 .1 .1 .1 .0, length-set (e .args .mates .now) (e .args .i) (e .args .v + 1))
+
+  ask-row-same-length-3 : ask-row-lts.Need-same-length-3 row-claims (ask-row-at t) ask-row.Post
+  ask-row-same-length-3 c =
+      let o = c .before .before .before in
+      simp length-set (o .ask-value .kept .1 .1 .1 .1 .0 ∙ simp length-set)
+
+  ask-row-returns-3 : ask-row-lts.Need-returns-3 row-claims (ask-row-at t) ask-row.Post
+  ask-row-returns-3 c =
+      let o = c .before .before .before in
+      let e = row-start o in
+      row-stays (e .pre .1 .0) (e .args .i) (e .pre .1 .1 .0) (e .pre .1 .1 .1) (present o) (e .pre .1 .1 .2) (o .ask-value .ensures) (c .if2 .left)
+
+  -- ---- v asks the rows that hold it
+
+  abbrev value-claims : ask-value-lts.Claims
+  value-claims = (
+    minus-reads.Asked,
+    minus-reads.Learnt,
+    top-reads.Asked,
+    top-reads.Learnt,
+    without-reads.Asked,
+    without-reads.Learnt,
+    has-reads.Asked,
+    has-reads.Learnt,
+    with-reads.Asked,
+    with-reads.Learnt,
+    ask-row-below t,
+    ask-row.Post,
+  )
+
+  -- the places where the next row is found, and where it has been asked
+  abbrev Next : Type 0
+  Next = ask-value-lts.Else1 value-claims (ask-value-at t) ask-value.Post ask-value-Inv-loop ask-value-μ-loop
+
+  abbrev RowAsked : Type 0
+  RowAsked = ask-value-lts.After-ask-row value-claims (ask-value-at t) ask-value.Post ask-value-Inv-loop ask-value-μ-loop
+
+  abbrev AtLoop : Type 0
+  AtLoop = ask-value-lts.At-loop value-claims (ask-value-at t) ask-value.Post ask-value-Inv-loop ask-value-μ-loop
+
+  abbrev looping : Next → AtLoop
+  looping k = k .before .before .before
+
+  abbrev value-start : AtLoop → ask-value-lts.Start value-claims (ask-value-at t) ask-value.Post ask-value-Inv-loop ask-value-μ-loop
+  value-start c = c .before .before .before .before .before
+
+  abbrev row : Next → ℕ
+  row k = k .before .top .result - 1
+
+  next-row : (k : Next) → (row k < wordBits) × (has (minus (looping k .loop .left) (looping k .loop .asked)) (row k) ≡ true)
+  next-row k = turn-next (looping k .loop .inv) (k .before .before .minus .ensures) (k .before .top .ensures) (k .if1 .left)
+
+  abbrev next-of : RowAsked → Next
+  next-of c = c .before .before .before .before .before .before .before .before .before
+
+  -- what the row has answered
+  answer : (c : RowAsked) → let k = next-of c in let e = value-start (looping k) in
+      OfRow (c .ask-row .result) (row k) (e .args .v) (e .args .rows .now) (looping k .loop .mates) (bitOr (looping k .loop .asked) (single (row k)))
+      (c .ask-row .last .1 .1 .1 .1 .1 .0) (c .ask-row .last .1 .1 .1 .1 .1 .1 .0)
+  answer c = rw (c .before .before .before .with .ensures) at (c .ask-row .ensures)
+
+  ask-value-mul-left : ask-value-lts.Need-mul-left value-claims (ask-value-at t) ask-value.Post ask-value-Inv-loop ask-value-μ-loop
+  ask-value-mul-left c = search needs
+
+  ask-value-shared-slice-read-left : ask-value-lts.Need-shared-slice-read-left value-claims (ask-value-at t) ask-value.Post ask-value-Inv-loop ask-value-μ-loop
+  ask-value-shared-slice-read-left c = let e = c .before .before .before .before in omega (arith, e .pre .1 .small, e .pre .1 .index .wide)
+
+  ask-value-loop-holds : ask-value-lts.Need-loop-holds value-claims (ask-value-at t) ask-value.Post ask-value-Inv-loop ask-value-μ-loop
+  ask-value-loop-holds c =
+      let e = c .before .before .before .before in
+      turn-start (e .pre .1 .index) (or-lt wordBits _ _ (c .shared-slice-known3 .given (e .args .v) .fits) (e .fits .heavy .fits))
+
+  ask-value-minus-requires : ask-value-lts.Need-minus-requires value-claims (ask-value-at t) ask-value.Post ask-value-Inv-loop ask-value-μ-loop
+  ask-value-minus-requires c κs = search needs
+
+  ask-value-top-requires : ask-value-lts.Need-top-requires value-claims (ask-value-at t) ask-value.Post ask-value-Inv-loop ask-value-μ-loop
+  ask-value-top-requires c κs = search needs
+
+  ask-value-same-length : ask-value-lts.Need-same-length value-claims (ask-value-at t) ask-value.Post ask-value-Inv-loop ask-value-μ-loop
+  ask-value-same-length c = ap length (c .before .before .before .loop .inv .stuck .still)
+
+  ask-value-returns : ask-value-lts.Need-returns value-claims (ask-value-at t) ask-value.Post ask-value-Inv-loop ask-value-μ-loop
+  ask-value-returns c =
+      let T = c .before .before .before .loop .inv in
+      turn-end T (turn-none T (c .before .before .minus .ensures) (c .before .top .ensures) (c .if1 .taken))
+
+  ask-value-sub-i : ask-value-lts.Need-sub-i value-claims (ask-value-at t) ask-value.Post ask-value-Inv-loop ask-value-μ-loop
+  ask-value-sub-i c = omega (arith, c .if1 .left)
+
+  ask-value-without-requires : ask-value-lts.Need-without-requires value-claims (ask-value-at t) ask-value.Post ask-value-Inv-loop ask-value-μ-loop
+  ask-value-without-requires c κs = next-row c .0
+
+  ask-value-mul-has : ask-value-lts.Need-mul-has value-claims (ask-value-at t) ask-value.Post ask-value-Inv-loop ask-value-μ-loop
+  ask-value-mul-has c = search needs
+
+  ask-value-shared-slice-read-has : ask-value-lts.Need-shared-slice-read-has value-claims (ask-value-at t) ask-value.Post ask-value-Inv-loop ask-value-μ-loop
+  ask-value-shared-slice-read-has c = let k = c .before .before in turn-row (looping k .loop .inv) (row k) (next-row k .1)
+
+  ask-value-has-requires : ask-value-lts.Need-has-requires value-claims (ask-value-at t) ask-value.Post ask-value-Inv-loop ask-value-μ-loop
+  ask-value-has-requires c κs = search needs
+
+  ask-value-with-requires : ask-value-lts.Need-with-requires value-claims (ask-value-at t) ask-value.Post ask-value-Inv-loop ask-value-μ-loop
+  ask-value-with-requires c κs = next-row (c .before .before .before .before .before) .0
+
+  ask-value-ask-row-requires : ask-value-lts.Need-ask-row-requires value-claims (ask-value-at t) ask-value.Post ask-value-Inv-loop ask-value-μ-loop
+  ask-value-ask-row-requires c κs =
+      let k = c .before .before .before .before .before .before .before .before in
+      let l = looping k .loop in
+      let e = value-start (looping k) in
+      let with = c .before .before .with in (
+        omega (arith, turn-falls (l .inv) (row k) (next-row k .1) (e .pre .1 .few), ap (unasked wordBits) (with .ensures)),
         (
-          turn-row (e .args .v) (e .args .rows .now) (e .args .mates .now) (e .args .asked .now) (l .mates) (l .asked) (l .left) (l .inv) i (next .1),
-          (sym (c .before .before .before .before .before .has .ensures) ∙ c .before .before .before .before .if2 .taken),
-          ap (λ (x : ℕ). has x i) (with .ensures) ∙ with-new (l .asked) i,
+          subst (Asks (e .args .v) (e .args .rows .now) (e .args .columns .now) (e .args .heavy)) (sym (l .inv .stuck .still)) (e .pre .1),
+          (
+            turn-row (l .inv) (row k) (next-row k .1),
+            sym (c .before .before .before .before .before .has .ensures) ∙ c .before .before .before .before .if2 .taken,
+            ap (λ (x : ℕ). has x (row k)) (with .ensures) ∙ with-new (l .asked) (row k),
+          ),
         ),
-      ),
-    )
+      )
 
-ask-value-same-length-2 : (t : ℕ) → ask-value-lts.Need-same-length-2 (
-  minus-reads.Asked,
-  minus-reads.Learnt,
-  top-reads.Asked,
-  top-reads.Learnt,
-  without-reads.Asked,
-  without-reads.Learnt,
-  has-reads.Asked,
-  has-reads.Learnt,
-  with-reads.Asked,
-  with-reads.Learnt,
-  ask-row-below t,
-  ask-row.Post,
-) (ask-value-at t) ask-value.Post ask-value-Inv-loop ask-value-μ-loop
-ask-value-same-length-2 t c =
-    let e = c .before .before .before .before .before .before .before .before .before .before .before .before .before .before .before .before .before .before .before .before in
-    let l = c .before .before .before .before .before .before .before .before .before .before .before .before .before .before .before .loop in
-    let k = c .before .before .before .before .before .before .before .before .before .before .before .before in
-    c .before .before .before .ask-row .kept .1 .1 .1 .1 .1 .0 ∙ ap length (l .inv .stuck .still)
+  ask-value-same-length-2 : ask-value-lts.Need-same-length-2 value-claims (ask-value-at t) ask-value.Post ask-value-Inv-loop ask-value-μ-loop
+  ask-value-same-length-2 c =
+      let o = c .before .before .before in
+      o .ask-row .kept .1 .1 .1 .1 .1 .0 ∙ ap length (looping (next-of o) .loop .inv .stuck .still)
 
-ask-value-returns-2 : (t : ℕ) → ask-value-lts.Need-returns-2 (
-  minus-reads.Asked,
-  minus-reads.Learnt,
-  top-reads.Asked,
-  top-reads.Learnt,
-  without-reads.Asked,
-  without-reads.Learnt,
-  has-reads.Asked,
-  has-reads.Learnt,
-  with-reads.Asked,
-  with-reads.Learnt,
-  ask-row-below t,
-  ask-row.Post,
-) (ask-value-at t) ask-value.Post ask-value-Inv-loop ask-value-μ-loop
-ask-value-returns-2 t c =
-    let e = c .before .before .before .before .before .before .before .before .before .before .before .before .before .before .before .before .before .before .before .before in
-    let l = c .before .before .before .before .before .before .before .before .before .before .before .before .before .before .before .loop in
-    let k = c .before .before .before .before .before .before .before .before .before .before .before .before in
-    let next = turn-next (e .args .v) (e .args .rows .now) (e .args .mates .now) (e .args .asked .now) (l .mates) (l .asked) (l .left) (l .inv) (k .before .before .minus .result) (k .before .top .result) (k .before .before .minus .ensures) (k .before .top .ensures) (k .if1 .left) in
-    let o = c .before .before .before .ask-row in
-    let i = k .before .top .result - 1 in
-    let O = subst (λ (x : ℕ). OfRow (o .result) i (e .args .v) (e .args .rows .now) (l .mates) x (o .last .1 .1 .1 .1 .1 .0) (o .last .1 .1 .1 .1 .1 .1 .0)) (c .before .before .before .before .before .before .with .ensures) (o .ensures) in
-    turn-found (e .args .v) (e .args .rows .now) (e .args .mates .now) (e .args .asked .now) (l .mates) (l .asked) (l .left) (l .inv) i
-    (next .1) (o .result) (o .last .1 .1 .1 .1 .1 .0) (o .last .1 .1 .1 .1 .1 .1 .0) O (c .if3 .taken)
+  ask-value-returns-2 : ask-value-lts.Need-returns-2 value-claims (ask-value-at t) ask-value.Post ask-value-Inv-loop ask-value-μ-loop
+  ask-value-returns-2 c =
+      let o = c .before .before .before in
+      let k = next-of o in
+      turn-found (looping k .loop .inv) (row k) (next-row k .1) (answer o) (c .if3 .taken)
 
-ask-value-loop-less : (t : ℕ) → ask-value-lts.Need-loop-less (
-  minus-reads.Asked,
-  minus-reads.Learnt,
-  top-reads.Asked,
-  top-reads.Learnt,
-  without-reads.Asked,
-  without-reads.Learnt,
-  has-reads.Asked,
-  has-reads.Learnt,
-  with-reads.Asked,
-  with-reads.Learnt,
-  ask-row-below t,
-  ask-row.Post,
-) (ask-value-at t) ask-value.Post ask-value-Inv-loop ask-value-μ-loop
-ask-value-loop-less t c =
-    let e = c .before .before .before .before .before .before .before .before .before .before .before .before .before .before .before .before .before .before .before .before in
-    let l = c .before .before .before .before .before .before .before .before .before .before .before .before .before .before .before .loop in
-    let k = c .before .before .before .before .before .before .before .before .before .before .before .before in
-    let next = turn-next (e .args .v) (e .args .rows .now) (e .args .mates .now) (e .args .asked .now) (l .mates) (l .asked) (l .left) (l .inv) (k .before .before .minus .result) (k .before .top .result) (k .before .before .minus .ensures) (k .before .top .ensures) (k .if1 .left) in
-    omega (
-      arith,
-      c .before .before .before .before .before .before .before .before .before .before .before .without .ensures,
-      turn-less (e .args .v) (e .args .rows .now) (e .args .mates .now) (e .args .asked .now) (l .mates) (l .asked) (l .left) (l .inv) (k .before .top .result - 1) (next .1),
-    )
+  ask-value-loop-less : ask-value-lts.Need-loop-less value-claims (ask-value-at t) ask-value.Post ask-value-Inv-loop ask-value-μ-loop
+  ask-value-loop-less c =
+      let k = next-of (c .before .before .before) in
+      omega (arith, c .before .before .before .before .before .before .before .before .before .before .before .without .ensures, turn-less (looping k .loop .inv) (row k) (next-row k .1))
 
-ask-value-loop-again : (t : ℕ) → ask-value-lts.Need-loop-again (
-  minus-reads.Asked,
-  minus-reads.Learnt,
-  top-reads.Asked,
-  top-reads.Learnt,
-  without-reads.Asked,
-  without-reads.Learnt,
-  has-reads.Asked,
-  has-reads.Learnt,
-  with-reads.Asked,
-  with-reads.Learnt,
-  ask-row-below t,
-  ask-row.Post,
-) (ask-value-at t) ask-value.Post ask-value-Inv-loop ask-value-μ-loop
-ask-value-loop-again t c =
-    let e = c .before .before .before .before .before .before .before .before .before .before .before .before .before .before .before .before .before .before .before .before in
-    let l = c .before .before .before .before .before .before .before .before .before .before .before .before .before .before .before .loop in
-    let k = c .before .before .before .before .before .before .before .before .before .before .before .before in
-    let next = turn-next (e .args .v) (e .args .rows .now) (e .args .mates .now) (e .args .asked .now) (l .mates) (l .asked) (l .left) (l .inv) (k .before .before .minus .result) (k .before .top .result) (k .before .before .minus .ensures) (k .before .top .ensures) (k .if1 .left) in
-    let o = c .before .before .before .ask-row in
-    let i = k .before .top .result - 1 in
-    let O = subst (λ (x : ℕ). OfRow (o .result) i (e .args .v) (e .args .rows .now) (l .mates) x (o .last .1 .1 .1 .1 .1 .0) (o .last .1 .1 .1 .1 .1 .1 .0)) (c .before .before .before .before .before .before .with .ensures) (o .ensures) in
-    subst (Turn (e .args .v) (e .args .rows .now) (e .args .mates .now) (e .args .asked .now) (o .last .1 .1 .1 .1 .1 .0) (o .last .1 .1 .1 .1 .1 .1 .0)) (sym (c .before .before .before .before .before .before .before .before .before .before .before .without .ensures))
-    (turn-again (e .args .v) (e .args .rows .now) (e .args .mates .now) (e .args .asked .now) (l .mates) (l .asked) (l .left) (l .inv) i (next .1) (o .result) (o .last .1 .1 .1 .1 .1 .0) (o .last .1 .1 .1 .1 .1 .1 .0) O (c .if3 .left))
+  ask-value-loop-again : ask-value-lts.Need-loop-again value-claims (ask-value-at t) ask-value.Post ask-value-Inv-loop ask-value-μ-loop
+  ask-value-loop-again c =
+      let o = c .before .before .before in
+      let k = next-of o in
+      rw (o .before .before .before .before .before .before .before .before .without .ensures)
+      (turn-again (looping k .loop .inv) (row k) (next-row k .1) (answer o) (c .if3 .left))
 
-ask-value-loop-less-2 : (t : ℕ) → ask-value-lts.Need-loop-less-2 (
-  minus-reads.Asked,
-  minus-reads.Learnt,
-  top-reads.Asked,
-  top-reads.Learnt,
-  without-reads.Asked,
-  without-reads.Learnt,
-  has-reads.Asked,
-  has-reads.Learnt,
-  with-reads.Asked,
-  with-reads.Learnt,
-  ask-row-below t,
-  ask-row.Post,
-) (ask-value-at t) ask-value.Post ask-value-Inv-loop ask-value-μ-loop
-ask-value-loop-less-2 t c =
-    let e = c .before .before .before .before .before .before .before .before .before .before .before .before in
-    let l = c .before .before .before .before .before .before .before .loop in
-    let k = c .before .before .before .before in
-    let next = turn-next (e .args .v) (e .args .rows .now) (e .args .mates .now) (e .args .asked .now) (l .mates) (l .asked) (l .left) (l .inv) (k .before .before .minus .result) (k .before .top .result) (k .before .before .minus .ensures) (k .before .top .ensures) (k .if1 .left) in
-    omega (
-      arith,
-      c .before .before .before .without .ensures,
-      turn-less (e .args .v) (e .args .rows .now) (e .args .mates .now) (e .args .asked .now) (l .mates) (l .asked) (l .left) (l .inv) (k .before .top .result - 1) (next .1),
-    )
+  ask-value-loop-less-2 : ask-value-lts.Need-loop-less-2 value-claims (ask-value-at t) ask-value.Post ask-value-Inv-loop ask-value-μ-loop
+  ask-value-loop-less-2 c =
+      let k = c .before .before .before .before in
+      omega (arith, c .before .before .before .without .ensures, turn-less (looping k .loop .inv) (row k) (next-row k .1))
 
-ask-value-loop-again-2 : (t : ℕ) → ask-value-lts.Need-loop-again-2 (
-  minus-reads.Asked,
-  minus-reads.Learnt,
-  top-reads.Asked,
-  top-reads.Learnt,
-  without-reads.Asked,
-  without-reads.Learnt,
-  has-reads.Asked,
-  has-reads.Learnt,
-  with-reads.Asked,
-  with-reads.Learnt,
-  ask-row-below t,
-  ask-row.Post,
-) (ask-value-at t) ask-value.Post ask-value-Inv-loop ask-value-μ-loop
-ask-value-loop-again-2 t c =
-    let e = c .before .before .before .before .before .before .before .before .before .before .before .before in
-    let l = c .before .before .before .before .before .before .before .loop in
-    let k = c .before .before .before .before in
-    let next = turn-next (e .args .v) (e .args .rows .now) (e .args .mates .now) (e .args .asked .now) (l .mates) (l .asked) (l .left) (l .inv) (k .before .before .minus .result) (k .before .top .result) (k .before .before .minus .ensures) (k .before .top .ensures) (k .if1 .left) in
-    let i = k .before .top .result - 1 in
-    subst (Turn (e .args .v) (e .args .rows .now) (e .args .mates .now) (e .args .asked .now) (l .mates) (l .asked))
-    (sym (c .before .before .before .without .ensures))
-    (turn-pass (e .args .v) (e .args .rows .now) (e .args .mates .now) (e .args .asked .now) (l .mates) (l .asked) (l .left) (l .inv) i (next .1) (sym (c .before .has .ensures) ∙ c .if2 .left))
+  ask-value-loop-again-2 : ask-value-lts.Need-loop-again-2 value-claims (ask-value-at t) ask-value.Post ask-value-Inv-loop ask-value-μ-loop
+  ask-value-loop-again-2 c =
+      let k = c .before .before .before .before in
+      rw (c .before .before .before .without .ensures)
+      (turn-pass (looping k .loop .inv) (row k) (next-row k .1) (sym (c .before .has .ensures) ∙ c .if2 .left))
 
 pub +ask-row+ask-value-spec : {M : Type 1} → statement M
-+ask-row+ask-value-spec = close μ-ask-row μ-ask-value (λ t. ask-row-lts.spec (
-  ask-value-below t,
-  ask-value.Post,
-)
-    (ask-row-at t)
-    ask-row.Post
++ask-row+ask-value-spec = close μ-ask-row μ-ask-value
+    (λ t. ask-row-lts.spec (row-claims t) (ask-row-at t) ask-row.Post
     (ask-row-mul-w t)
     (ask-row-slice-read-w t)
     (ask-row-add-mates t)
@@ -613,24 +295,7 @@ pub +ask-row+ask-value-spec : {M : Type 1} → statement M
     (ask-row-slice-write-mates-2 t)
     (ask-row-same-length-3 t)
     (ask-row-returns-3 t))
-    λ t. ask-value-lts.spec (
-      minus-reads.Asked,
-      minus-reads.Learnt,
-      top-reads.Asked,
-      top-reads.Learnt,
-      without-reads.Asked,
-      without-reads.Learnt,
-      has-reads.Asked,
-      has-reads.Learnt,
-      with-reads.Asked,
-      with-reads.Learnt,
-      ask-row-below t,
-      ask-row.Post,
-    )
-    (ask-value-at t)
-    ask-value.Post
-    ask-value-Inv-loop
-    ask-value-μ-loop
+    (λ t. ask-value-lts.spec (value-claims t) (ask-value-at t) ask-value.Post ask-value-Inv-loop ask-value-μ-loop
     (ask-value-mul-left t)
     (ask-value-shared-slice-read-left t)
     (ask-value-loop-holds t)
@@ -650,4 +315,4 @@ pub +ask-row+ask-value-spec : {M : Type 1} → statement M
     (ask-value-loop-less t)
     (ask-value-loop-again t)
     (ask-value-loop-less-2 t)
-    (ask-value-loop-again-2 t)
+    (ask-value-loop-again-2 t))
