@@ -76,15 +76,18 @@ module _ {view : List ℕ} {ms₀ ms : List Bool} {n : ℕ} {s : Seats} {rows co
   offering-other false O other = record {
     bound = omega arith;
     pairs = O .pairs;
-    marks = tried-more view ms₀ ms n ms (O .marks) (try-marked mostValues view ms n (elim (true-or-false (marked ms n)) [ inl t ↦ t | inr f ↦ absurd (other f) ]));
+    marks = tried-more view ms₀ ms n ms (O .marks) (try-marked mostValues view ms n there);
   }
+    where
+      there : marked ms n ≡ true
+      there = elim (true-or-false (marked ms n)) [ inl t ↦ t | inr f ↦ absurd (other f) ]
 
   module _ {s′ : Seats} {rows′ columns′ mates′ : List ℕ} (A : OfSeat (at view n) s rows s′ rows′ columns′ mates′) where
     marked-more : Offering true view ms₀ ms n s rows columns mates → marked ms n ≡ true → Pairs view (before (n + 1) ms) s′ rows′ columns′ mates′
     unfolding offered
     marked-more O same =
         subst (λ (l : List Bool). Pairs view l s′ rows′ columns′ mates′) (before-marked n ms same)
-        (pairs-marked view (before n ms) s rows columns mates (O .pairs) n h (before-none n ms n (le-refl n)) s′ rows′ columns′ mates′ A)
+        (pairs-marked (O .pairs) h (before-none n ms n (le-refl n)) A)
 
     -- it has got a seat, and is marked
     pub offering-seated : (b : Bool) → Offering b view ms₀ ms n s rows columns mates → marked ms n ≡ b → s .used < s′ .used
@@ -95,7 +98,7 @@ module _ {view : List ℕ} {ms₀ ms : List Bool} {n : ℕ} {s : Seats} {rows co
         (sym (ap (set ms n) (sym same) ∙ set-getD ms n false))
         (record { bound = omega arith; pairs = marked-more O same; marks = O .marks })
     offering-seated false O same more =
-        let k = pairs-kept view ms s rows columns mates (O .pairs) n h same s′ rows′ columns′ mates′ A more in
+        let k = pairs-kept (O .pairs) h same A more in
         record { bound = omega arith; pairs = k .0; marks = tried-more view ms₀ ms n (set ms n true) (O .marks) (k .1) }
 
     -- it has got none
@@ -104,7 +107,7 @@ module _ {view : List ℕ} {ms₀ ms : List Bool} {n : ℕ} {s : Seats} {rows co
     unfolding offered marksThen
     offering-passed true O same less = record { bound = omega arith; pairs = marked-more O same; marks = O .marks }
     offering-passed false O same less =
-        let k = pairs-passed view ms s rows columns mates (O .pairs) n h same s′ rows′ columns′ mates′ A less in
+        let k = pairs-passed (O .pairs) h same A less in
         record { bound = omega arith; pairs = k .0; marks = tried-more view ms₀ ms n ms (O .marks) (k .1) }
 
 -- ---- the turns

@@ -25,8 +25,9 @@ rows-snoc view (i ∷ is) x = ap (λ (l : List ℕ). at view i ∷ l) (rows-snoc
 
 -- ---- row i is asked for a seat
 
-module _ (view : List ℕ) (ms : List Bool) (s : Seats) (rows columns mates : List ℕ) (G : Pairs view ms s rows columns mates) (i : ℕ) (h : i < length view) (n : marked ms i ≡ false)
-    (s′ : Seats) (rows′ columns′ mates′ : List ℕ) (O : OfSeat (at view i) s rows s′ rows′ columns′ mates′) where
+module _ {view : List ℕ} {ms : List Bool} {s : Seats} {rows columns mates : List ℕ} (G : Pairs view ms s rows columns mates)
+    {i : ℕ} (h : i < length view) (n : marked ms i ≡ false)
+    {s′ : Seats} {rows′ columns′ mates′ : List ℕ} (O : OfSeat (at view i) s rows s′ rows′ columns′ mates′) where
   abbrev is : List ℕ
   is = G .places
 
@@ -47,7 +48,13 @@ module _ (view : List ℕ) (ms : List Bool) (s : Seats) (rows columns mates : Li
         omega (arith, O .sits .bench .full, ap length listed′ ∙ length-map (is ++ i ∷ []) (at view))
 
     raised-pairs : Pairs view (set ms i true) s′ rows′ columns′ mates′
-    raised-pairs = record { sits = O .sits; places = is ++ i ∷ []; stands = raised-stands mostValues view ms is (G .stands) i h n (take (s′ .used) mates′) pairing′ larger; listed = listed′; small = small′ }
+    raised-pairs = record {
+      sits = O .sits;
+      places = is ++ i ∷ [];
+      stands = raised-stands mostValues view ms is (G .stands) i h n (take (s′ .used) mates′) pairing′ larger;
+      listed = listed′;
+      small = small′;
+    }
 
     raised-try : try mostValues view ms i ≡ set ms i true
     raised-try = raised-kept mostValues view ms is (G .stands) i h n (take (s′ .used) mates′) pairing′ larger
@@ -69,7 +76,8 @@ module _ (view : List ℕ) (ms : List Bool) (s : Seats) (rows columns mates : Li
           arith,
           full,
           size-open (take (s′ .used) mates′),
-          passed-largest s′ (rowsAt view is) columns′ (take (s′ .used) mates′) bench (at view i) (small′ i) (T .why) q (subst (λ (l : List ℕ). Pairing mostValues l q) (rows-snoc view is i) Q),
+          passed-largest s′ (rowsAt view is) columns′ (take (s′ .used) mates′) bench (at view i) (small′ i) (T .why) q
+              (subst (λ (l : List ℕ). Pairing mostValues l q) (rows-snoc view is i) Q),
         )
 
     passed-try : try mostValues view ms i ≡ ms
@@ -79,7 +87,13 @@ module _ (view : List ℕ) (ms : List Bool) (s : Seats) (rows columns mates : Li
     passed-same = record { sits = O .sits; places = is; stands = G .stands; listed = listed″; small = small′ }
 
     passed-marked : Pairs view (set ms i true) s′ rows′ columns′ mates′
-    passed-marked = record { sits = O .sits; places = is; stands = passed-stands mostValues view ms is (G .stands) i h n (take (s′ .used) mates′) (bench .pairing) full most; listed = listed″; small = small′ }
+    passed-marked = record {
+      sits = O .sits;
+      places = is;
+      stands = passed-stands mostValues view ms is (G .stands) i h n (take (s′ .used) mates′) (bench .pairing) full most;
+      listed = listed″;
+      small = small′;
+    }
 
   -- marked all the same, as a minimal row is
   pub pairs-marked : Pairs view (set ms i true) s′ rows′ columns′ mates′
@@ -94,6 +108,10 @@ module _ (view : List ℕ) (ms : List Bool) (s : Seats) (rows columns mates : Li
 
 -- ---- one row more has been tried
 
-pub tried-more : (view : List ℕ) (ms₀ ms : List Bool) (n : ℕ) (ms′ : List Bool) → ms ≡ tries mostValues view n zero ms₀ → try mostValues view ms n ≡ ms′ → ms′ ≡ tries mostValues view (n + 1) zero ms₀
+pub tried-more : (view : List ℕ) (ms₀ ms : List Bool) (n : ℕ) (ms′ : List Bool) → ms ≡ tries mostValues view n zero ms₀
+    → try mostValues view ms n ≡ ms′ → ms′ ≡ tries mostValues view (n + 1) zero ms₀
 tried-more view ms₀ ms n ms′ e t =
-    sym (ap (λ (k : ℕ). tries mostValues view k zero ms₀) (add-one n) ∙ tries-next mostValues view n zero ms₀ ∙ ap₂ (try mostValues view) (sym e) (zero-add n) ∙ t)
+    sym (
+    ap (λ (k : ℕ). tries mostValues view k zero ms₀) (add-one n) ∙ tries-next mostValues view n zero ms₀
+    ∙ ap₂ (try mostValues view) (sym e) (zero-add n) ∙ t
+    )

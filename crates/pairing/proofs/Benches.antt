@@ -101,7 +101,8 @@ module _ (s : Seats) (R columns p : List ℕ) (B : Bench s R columns p) where
     full-largest : s .free ≡ zero → Largest mostValues (R ++ row ∷ []) (p ++ zero ∷ [])
     full-largest z =
         failed-largest mostValues (R ++ row ∷ []) (p ++ zero ∷ []) (pairing-open R row p (B .pairing)) (λ i. false) (λ i a. absurd (not-both a refl))
-        (λ v h none i inn. absurd (not-both (B .free v (below i v (inn .1)) (λ q. none (open-seated p v q))) (ap (λ (x : ℕ). has x v) z ∙ has-empty v)))
+        (λ v h none i inn.
+        absurd (not-both (B .free v (below i v (inn .1)) (λ q. none (open-seated p v q))) (ap (λ (x : ℕ). has x v) z ∙ has-empty v)))
 
     pub passed-largest : Inside row (s .dead) ⊎ (s .free ≡ zero) → Largest mostValues (R ++ row ∷ []) (p ++ zero ∷ [])
     passed-largest (inl ins) = dead-largest ins
@@ -142,7 +143,9 @@ module _ (s : Seats) (R columns p : List ℕ) (B : Bench s R columns p) where
       ];
       shut = G .shut (s .dead) (shut-open R row p (s .dead) (B .pairing) (B .shut)) (free-alive v t);
       fresh = λ i u h. is-false (has (minus (s .fresh) row) u) (λ e. let k = minus-out (s .fresh) row u e in unheld i u h (k .0) (k .1));
-      index = subst (λ (n : ℕ). Index (R ++ row ∷ []) columns (bitOr (s .heavy) (single n))) (B .used) (index-open R row columns (s .heavy) (B .index));
+      index =
+          subst (λ (n : ℕ). Index (R ++ row ∷ []) columns (bitOr (s .heavy) (single n))) (B .used)
+          (index-open R row columns (s .heavy) (B .index));
     }
 
     -- what a search may rely on; the rows may have gone into columns before
@@ -234,7 +237,9 @@ module _ (s : Seats) (R columns p : List ℕ) (B : Bench s R columns p) where
       failed-row v h = unasked-dead (length R) v last (ap (λ (x : ℕ). has x v) (row-last R row) ∙ h)
         where
           last : has asked (length R) ≡ false
-          last = is-false (has asked (length R)) (λ a. let k = O .closed none (length R) a in not-mate (at-open p (length R) ∙ past p (length R) (omega (arith, B .pairing .fits))) (k .1))
+          last = is-false (has asked (length R)) (λ a.
+              let k = O .closed none (length R) a in
+              not-mate (at-open p (length R) ∙ past p (length R) (omega (arith, B .pairing .fits))) (k .1))
 
   -- the same seats, with another index and other dead values
   pub bench-other : (columns′ : List ℕ) (entered′ heavy′ dead′ : ℕ) → Index R columns′ heavy′ → Shut R p dead′

@@ -71,7 +71,10 @@ module _ {row i : ℕ} {columns : List ℕ} where
         wide = length-set columns′ v (bitOr (at columns′ v) (single i)) ∙ E .wide;
         new = λ u t. elim (E .new u t) [
           | inr c ↦ inr (kept i u c)
-          | inl l ↦ elim (left-or-same left v u l) [ inl s ↦ inr (ap (λ (x : ℕ). has (at columns″ x) i) s ∙ ap (λ (x : ℕ). has x i) put ∙ with-new (at columns′ v) i) | inr m ↦ inl m ]
+          | inl l ↦ elim (left-or-same left v u l) [
+            | inl s ↦ inr (ap (λ (x : ℕ). has (at columns″ x) i) s ∙ ap (λ (x : ℕ). has x i) put ∙ with-new (at columns′ v) i)
+            | inr m ↦ inl m
+          ]
         ];
         old = λ j u t. kept j u (E .old j u t);
         from = λ j u t. elim (stored columns′ v (bitOr (at columns′ v) (single i)) u inside) [
@@ -112,15 +115,16 @@ pub index-entered : (rows columns columns′ : List ℕ) (heavy i : ℕ) → Ind
 index-entered rows columns columns′ heavy i X h E = record { wide = E .wide ∙ X .wide; complete = complete; inside = inside }
   where
     complete : (j v : ℕ) → has (at rows j) v ≡ true → has (bitOr (at columns′ v) (minus heavy (single i))) j ≡ true
-    complete j v t = has-or (at columns′ v) (minus heavy (single i)) j ∙ elim (or-cases (has (at columns v) j) (has heavy j) (sym (has-or (at columns v) heavy j) ∙ X .complete j v t)) [
-      | inl c ↦ or-left (has (at columns′ v) j) (has (minus heavy (single i)) j) (E .old j v c)
-      | inr y ↦ elim (left-or-same heavy i j y) [
-        | inl s ↦
-            or-left (has (at columns′ v) j) (has (minus heavy (single i)) j)
-            (ap (has (at columns′ v)) s ∙ E .new v (ap (λ (k : ℕ). has (at rows k) v) (sym s) ∙ t))
-        | inr m ↦ or-right (has (at columns′ v) j) (has (minus heavy (single i)) j) m
-      ]
-    ]
+    complete j v t = has-or (at columns′ v) (minus heavy (single i)) j
+        ∙ elim (or-cases (has (at columns v) j) (has heavy j) (sym (has-or (at columns v) heavy j) ∙ X .complete j v t)) [
+          | inl c ↦ or-left (has (at columns′ v) j) (has (minus heavy (single i)) j) (E .old j v c)
+          | inr y ↦ elim (left-or-same heavy i j y) [
+            | inl s ↦
+                or-left (has (at columns′ v) j) (has (minus heavy (single i)) j)
+                (ap (has (at columns′ v)) s ∙ E .new v (ap (λ (k : ℕ). has (at rows k) v) (sym s) ∙ t))
+            | inr m ↦ or-right (has (at columns′ v) j) (has (minus heavy (single i)) j) m
+          ]
+        ]
 
     inside : (j v : ℕ) → has (bitOr (at columns′ v) (minus heavy (single i))) j ≡ true → j < length rows
     inside j v t =

@@ -135,7 +135,8 @@ module _ {row : ℕ} {s : Seats} {rows columns mates : List ℕ} (K : Seeks row 
         → Searches from (take (s .used + 1) (rowsWith row s rows)) columns′ all (take (s .used + 1) (matesWith s mates))
     seek-searches from all is every =
         rw (is, every, rows-put S row (K .low) (K .room), mates-put S row (K .low) (K .room) zero)
-        (subst (λ (n : ℕ). Searches (minus (s .free) (s .fresh)) (R S ++ row ∷ []) columns′ (bitOr heavy′ (single n)) (p S ++ zero ∷ [])) (S .bench .used)
+        (subst (λ (n : ℕ). Searches (minus (s .free) (s .fresh)) (R S ++ row ∷ []) columns′ (bitOr heavy′ (single n)) (p S ++ zero ∷ []))
+        (S .bench .used)
         (search-part s (R S) columns (p S) (S .bench) row (K .low)
         (bench-searches s (R S) columns (p S) (S .bench) row (K .low) columns′ heavy′ (omega (arith, S .bench .used, K .room)) index)))
 
@@ -195,10 +196,15 @@ module _ {row : ℕ} {s : Seats} {rows columns mates : List ℕ} (K : Seeks row 
           mates-wide = seek-long;
           few = S .few;
           bench = rw (rows-old S row (K .low) (K .room), mates-old)
-              (bench-other s (R S) columns (p S) (S .bench) columns′ (s .used) heavy′ dead (index (F .index)) (failed-shut s (R S) columns (p S) (S .bench) row (K .low) v p′ asked dead plain none plain-dead));
+              (bench-other s (R S) columns (p S) (S .bench) columns′ (s .used) heavy′ dead (index (F .index))
+              (failed-shut s (R S) columns (p S) (S .bench) row (K .low) v p′ asked dead plain none plain-dead));
         };
         column = refl;
-        either = inl (record { used = refl; rows-kept = rows-old S row (K .low) (K .room); why = inl (failed-row s (R S) columns (p S) (S .bench) row (K .low) v p′ asked dead plain none plain-dead) });
+        either = inl (record {
+          used = refl;
+          rows-kept = rows-old S row (K .low) (K .room);
+          why = inl (failed-row s (R S) columns (p S) (S .bench) row (K .low) v p′ asked dead plain none plain-dead);
+        });
       }
         where
           plain-dead : Unreached asked (p S) dead

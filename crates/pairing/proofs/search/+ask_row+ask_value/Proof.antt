@@ -70,7 +70,7 @@ module _ (t : ℕ) where
   row-start c = c .before .before .before .before .before .before .before .before
 
   -- its present value
-  present : (c : ValueAsked) → at (row-start c .args .mates .now) (row-start c .args .i) ≡ suc (at (row-start c .args .mates .now) (row-start c .args .i) - 1)
+  present : (c : ValueAsked) → let mate = at (row-start c .args .mates .now) (row-start c .args .i) in mate ≡ suc (mate - 1)
   present c = omega (arith, c .before .before .before .if1 .left)
 
   ask-row-mul-w : ask-row-lts.Need-mul-w row-claims (ask-row-at t) ask-row.Post
@@ -102,8 +102,9 @@ module _ (t : ℕ) where
   ask-row-ask-value-requires : ask-row-lts.Need-ask-value-requires row-claims (ask-row-at t) ask-row.Post
   ask-row-ask-value-requires c κs =
       let e = c .before .before .before .before .before .before .before in
-      let mate : at (e .args .mates .now) (e .args .i) ≡ suc (at (e .args .mates .now) (e .args .i) - 1) = omega (arith, c .before .before .if1 .left) in
-      (omega arith, row-asks (e .pre .1 .0) (e .args .i) (e .pre .1 .1 .0) (e .pre .1 .1 .1) mate)
+      let mate = at (e .args .mates .now) (e .args .i) in
+      let is : mate ≡ suc (mate - 1) = omega (arith, c .before .before .if1 .left) in
+      (omega arith, row-asks (e .pre .1 .0) (e .args .i) (e .pre .1 .1 .0) (e .pre .1 .1 .1) is)
 
   ask-row-same-length-2 : ask-row-lts.Need-same-length-2 row-claims (ask-row-at t) ask-row.Post
   ask-row-same-length-2 c = c .before .before .before .ask-value .kept .1 .1 .1 .1 .0 ∙ simp length-set
@@ -186,7 +187,8 @@ module _ (t : ℕ) where
   ask-value-mul-left : ask-value-lts.Need-mul-left value-claims (ask-value-at t) ask-value.Post ask-value-Inv-loop ask-value-μ-loop
   ask-value-mul-left c = search needs
 
-  ask-value-shared-slice-read-left : ask-value-lts.Need-shared-slice-read-left value-claims (ask-value-at t) ask-value.Post ask-value-Inv-loop ask-value-μ-loop
+  ask-value-shared-slice-read-left :
+      ask-value-lts.Need-shared-slice-read-left value-claims (ask-value-at t) ask-value.Post ask-value-Inv-loop ask-value-μ-loop
   ask-value-shared-slice-read-left c = let e = c .before .before .before .before in omega (arith, e .pre .1 .small, e .pre .1 .index .wide)
 
   ask-value-loop-holds : ask-value-lts.Need-loop-holds value-claims (ask-value-at t) ask-value.Post ask-value-Inv-loop ask-value-μ-loop
@@ -217,7 +219,8 @@ module _ (t : ℕ) where
   ask-value-mul-has : ask-value-lts.Need-mul-has value-claims (ask-value-at t) ask-value.Post ask-value-Inv-loop ask-value-μ-loop
   ask-value-mul-has c = search needs
 
-  ask-value-shared-slice-read-has : ask-value-lts.Need-shared-slice-read-has value-claims (ask-value-at t) ask-value.Post ask-value-Inv-loop ask-value-μ-loop
+  ask-value-shared-slice-read-has :
+      ask-value-lts.Need-shared-slice-read-has value-claims (ask-value-at t) ask-value.Post ask-value-Inv-loop ask-value-μ-loop
   ask-value-shared-slice-read-has c = let k = c .before .before in turn-row (looping k .loop .inv) (row k) (next-row k .1)
 
   ask-value-has-requires : ask-value-lts.Need-has-requires value-claims (ask-value-at t) ask-value.Post ask-value-Inv-loop ask-value-μ-loop
@@ -256,8 +259,13 @@ module _ (t : ℕ) where
 
   ask-value-loop-less : ask-value-lts.Need-loop-less value-claims (ask-value-at t) ask-value.Post ask-value-Inv-loop ask-value-μ-loop
   ask-value-loop-less c =
-      let k = next-of (c .before .before .before) in
-      omega (arith, c .before .before .before .before .before .before .before .before .before .before .before .without .ensures, turn-less (looping k .loop .inv) (row k) (next-row k .1))
+      let o = c .before .before .before in
+      let k = next-of o in
+      omega (
+        arith,
+        o .before .before .before .before .before .before .before .before .without .ensures,
+        turn-less (looping k .loop .inv) (row k) (next-row k .1),
+      )
 
   ask-value-loop-again : ask-value-lts.Need-loop-again value-claims (ask-value-at t) ask-value.Post ask-value-Inv-loop ask-value-μ-loop
   ask-value-loop-again c =

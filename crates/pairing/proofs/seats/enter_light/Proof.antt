@@ -28,7 +28,9 @@ shared-slice-read-row : tie.Need-shared-slice-read-row Inv-loop μ-loop
 shared-slice-read-row c = search needs
 
 enter-requires : tie.Need-enter-requires Inv-loop μ-loop
-enter-requires c κs = (omega (arith, c .before .before .before .loop-test .taken, c .before .before .before .before .before .before .before .pre .0), c .before .before .before .before .loop .inv .wide)
+enter-requires c κs =
+    let l = c .before .before .before in
+    (omega (arith, l .loop-test .taken, l .before .before .before .before .pre .0), l .before .loop .inv .wide)
 
 without-requires : tie.Need-without-requires Inv-loop μ-loop
 without-requires c κs = omega (
@@ -46,7 +48,8 @@ loop-again c =
     let l = c .before .before .before .before .before .before .before .before in
     let o = c .before .before .before .enter in
     subst (Index (e .rows .now) (o .last .1 .1 .0)) (sym (c .without .ensures))
-    (index-entered (e .rows .now) (l .loop .columns) (o .last .1 .1 .0) (l .loop .left) (l .loop .next) (l .loop .inv) (c .before .before .before .before .before .before .before .loop-test .taken) (o .ensures))
+    (index-entered (e .rows .now) (l .loop .columns) (o .last .1 .1 .0) (l .loop .left) (l .loop .next) (l .loop .inv)
+    (c .before .before .before .before .before .before .before .loop-test .taken) (o .ensures))
 
 loop-less-2 : tie.Need-loop-less-2 Inv-loop μ-loop
 loop-less-2 c = search needs

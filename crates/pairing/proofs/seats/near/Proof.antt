@@ -15,7 +15,9 @@ returns : tie.Need-returns
 returns c =
     let e = c .before .before in
     let t = near-value (e .args .row) (e .args .fresh) (c .lowest .result) (e .fits .row .fits) (c .lowest .ensures) (c .before .if1 .taken) in
-    (t .0, e .pre .1 (c .lowest .result) (has-and (e .args .row) (e .args .fresh) (c .lowest .result) ∙ and-both (has (e .args .row) (c .lowest .result)) (has (e .args .fresh) (c .lowest .result)) (t .2) (t .1)), t .2)
+    let v = c .lowest .result in
+    let both = has-and (e .args .row) (e .args .fresh) v ∙ and-both (has (e .args .row) v) (has (e .args .fresh) v) (t .2) (t .1) in
+    (t .0, e .pre .1 v both, t .2)
 
 lowest-requires-2 : tie.Need-lowest-requires-2
 lowest-requires-2 c κs = search needs

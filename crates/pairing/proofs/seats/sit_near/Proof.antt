@@ -50,7 +50,8 @@ returns : tie.Need-returns
 returns c =
     let e = c .before .before .before .before .before in
     let near = c .before .near in
-    rw (c .taken .ensures) (seat-direct (e .pre .0) (e .args .row) (e .pre .1) (room (c .before)) (near .result) (near .ensures .1) (near .ensures .2))
+    rw (c .taken .ensures)
+    (seat-direct (e .pre .0) (e .args .row) (e .pre .1) (room (c .before)) (near .result) (near .ensures .1) (near .ensures .2))
 
 pub sit-near-spec : {M : Type 1} → statement M
 sit-near-spec =

@@ -49,7 +49,8 @@ loop-again c =
     let e = c .before .before .before .before .before .before .before .before .args in
     let l = c .before .before .before .before .before .before .loop in
     subst (λ (x : ℕ). Reaching (e .asked) (e .mates .now) x (l .next + 1)) (sym (c .with .ensures))
-    (reach-more (e .asked) (e .mates .now) (l .dead) (l .next) (l .inv) (c .before .before .before .before .before .loop-test .taken) (c .before .before .before .if1 .taken) (sym (c .before .before .has .ensures) ∙ not-true _ (c .before .if2 .taken)))
+    (reach-more (e .asked) (e .mates .now) (l .dead) (l .next) (l .inv) (c .before .before .before .before .before .loop-test .taken)
+    (c .before .before .before .if1 .taken) (sym (c .before .before .has .ensures) ∙ not-true _ (c .before .if2 .taken)))
 
 loop-less-2 : tie.Need-loop-less-2 Inv-loop μ-loop
 loop-less-2 c = search needs
