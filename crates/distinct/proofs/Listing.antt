@@ -17,7 +17,8 @@ unfolding positions
 hit b [] i t = absurd (false≢true t)
 hit b (true ∷ ms) zero t = ap (λ (k : ℕ). k ∷ []) (sym (add-zero b))
 hit b (false ∷ ms) zero t = absurd (false≢true t)
-hit b (true ∷ ms) (suc i) t = ap (λ (l : List ℕ). b ∷ l) (hit (suc b) ms i t ∙ ap (λ (k : ℕ). positions (suc b) (take i ms) ++ k ∷ []) (suc-add b i ∙ sym (add-suc b i)))
+hit b (true ∷ ms) (suc i) t =
+    ap (λ (l : List ℕ). b ∷ l) (hit (suc b) ms i t ∙ ap (λ (k : ℕ). positions (suc b) (take i ms) ++ k ∷ []) (suc-add b i ∙ sym (add-suc b i)))
 hit b (false ∷ ms) (suc i) t = hit (suc b) ms i t ∙ ap (λ (k : ℕ). positions (suc b) (take i ms) ++ k ∷ []) (suc-add b i ∙ sym (add-suc b i))
 
 miss : (b : ℕ) (ms : List Bool) (i : ℕ) → marked ms i ≡ false → positions b (take (suc i) ms) ≡ positions b (take i ms)
@@ -38,14 +39,18 @@ pub record Listed (ms : List Bool) (old list : List ℕ) (n next : ℕ) : Type 0
   pub count : n ≡ length (positions zero (take next ms))
   pub is : list ≡ positions zero (take next ms) ++ drop n old
 
-module _ (ms : List Bool) (old : List ℕ) where
+module _ {ms : List Bool} {old : List ℕ} where
   pub listed-start : Listed ms old old zero zero
   unfolding positions
   listed-start = record { inside = omega arith; few = omega arith; count = refl; is = refl }
 
-  module _ (list : List ℕ) (n next : ℕ) (L : Listed ms old list n next) where
+  module _ {list : List ℕ} {n next : ℕ} (L : Listed ms old list n next) where
+    -- the positions that are listed
+    abbrev done : List ℕ
+    done = positions zero (take next ms)
+
     pub listed-long : length ms ≤ length old → length list ≡ length old
-    listed-long room = omega (arith, ap length (L .is), length-append (positions zero (take next ms)) (drop n old), length-drop n old, L .count, L .few, L .inside)
+    listed-long room = omega (arith, ap length (L .is), length-append done (drop n old), length-drop n old, L .count, L .few, L .inside)
 
     pub listed-pass : next < length ms → marked ms next ≡ false → Listed ms old list n (next + 1)
     listed-pass h f = record {
@@ -55,26 +60,27 @@ module _ (ms : List Bool) (old : List ℕ) where
       is = L .is ∙ ap (λ (l : List ℕ). l ++ drop n old) (sym same);
     }
       where
-        same : positions zero (take (next + 1) ms) ≡ positions zero (take next ms)
+        same : positions zero (take (next + 1) ms) ≡ done
         same = ap (λ (k : ℕ). positions zero (take k ms)) (add-one next) ∙ miss zero ms next f
 
     pub listed-more : next < length ms → length ms ≤ length old → marked ms next ≡ true → Listed ms old (set list n next) (n + 1) (next + 1)
     listed-more h room t = record {
       inside = omega arith;
       few = omega (arith, L .few);
-      count = let e : length (positions zero (take next ms) ++ next ∷ []) ≡ length (positions zero (take next ms)) + 1 = length-append (positions zero (take next ms)) (next ∷ []) in ap (λ (k : ℕ). k + 1) (L .count) ∙ sym e ∙ ap length (sym more);
+      count = ap (λ (k : ℕ). k + 1) (L .count) ∙ sym (length-append done (next ∷ [])) ∙ ap length (sym more);
       is = stored ∙ ap (λ (l : List ℕ). l ++ drop (n + 1) old) (sym more);
     }
       where
-        more : positions zero (take (next + 1) ms) ≡ positions zero (take next ms) ++ next ∷ []
-        more = ap (λ (k : ℕ). positions zero (take k ms)) (add-one next) ∙ hit zero ms next t ∙ ap (λ (k : ℕ). positions zero (take next ms) ++ k ∷ []) (zero-add next)
+        more : positions zero (take (next + 1) ms) ≡ done ++ next ∷ []
+        more =
+            ap (λ (k : ℕ). positions zero (take k ms)) (add-one next) ∙ hit zero ms next t ∙ ap (λ (k : ℕ). done ++ k ∷ []) (zero-add next)
 
-        stored : set list n next ≡ (positions zero (take next ms) ++ next ∷ []) ++ drop (n + 1) old
+        stored : set list n next ≡ (done ++ next ∷ []) ++ drop (n + 1) old
         stored =
-            ap (λ (l : List ℕ). set l n next) (L .is ∙ ap (λ (l : List ℕ). positions zero (take next ms) ++ l) (drop-cons old n zero (omega (arith, L .few))))
-            ∙ set-at (positions zero (take next ms)) (getD old n zero) (drop (suc n) old) next n (sym (L .count))
-            ∙ sym (append-assoc (positions zero (take next ms)) (next ∷ []) (drop (suc n) old))
-            ∙ ap (λ (k : ℕ). (positions zero (take next ms) ++ next ∷ []) ++ drop k old) (sym (add-one n))
+            ap (λ (l : List ℕ). set l n next) (L .is ∙ ap (λ (l : List ℕ). done ++ l) (drop-cons old n zero (omega (arith, L .few))))
+            ∙ set-at done (getD old n zero) (drop (suc n) old) next n (sym (L .count))
+            ∙ sym (append-assoc done (next ∷ []) (drop (suc n) old))
+            ∙ ap (λ (k : ℕ). (done ++ next ∷ []) ++ drop k old) (sym (add-one n))
 
     pub listed-end : length ms ≤ next → (n ≡ length (positions zero ms)) × (list ≡ positions zero ms ++ drop n old)
     listed-end h =

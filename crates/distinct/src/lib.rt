@@ -32,8 +32,8 @@ fn distinct_on(
     list::list_positions(keep, list)
 }
 
-// DISTINCT for a caller that has checked the view: the kept positions go to the front of the list, which keeps its later places. Answers their number.
-// A small view gets few places: to make them ready is most of its time.
+// DISTINCT for a caller that has checked the view: the kept positions go to the front of the list, which keeps its later places.
+// Answers their number. A small view gets few places: to make them ready is most of its time.
 pub fn distinct(d: usize, view: &[u64], list: &mut [usize]) -> usize
     requires { ⌜ Askable d (now view) (now list) ⌝ }
     ensures { λ r. ⌜ (r ≡ length (kept d (now (view .entry)))) × (now (list .exit) ≡ kept d (now (view .entry)) ++ drop r (now (list .entry))) ⌝ }

@@ -8,7 +8,8 @@ ghost use Rattle.theory.specs.Kept.{positions};
 // The places of the marks go to the front of the list.
 pub fn list_positions(keep: &[bool], list: &mut [usize]) -> usize
     requires { ⌜ length (now keep) ≤ length (now list) ⌝ }
-    ensures { λ r. ⌜ (r ≡ length (positions 0 (now (keep .entry)))) × (now (list .exit) ≡ positions 0 (now (keep .entry)) ++ drop r (now (list .entry))) ⌝ }
+    ensures { λ r. ⌜ (r ≡ length (positions 0 (now (keep .entry))))
+        × (now (list .exit) ≡ positions 0 (now (keep .entry)) ++ drop r (now (list .entry))) ⌝ }
 {
     let mut n: usize = 0;
     let mut next: usize = 0;

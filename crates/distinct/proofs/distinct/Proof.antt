@@ -24,8 +24,10 @@ slice-aggregate-distinct-on-3 c = search needs
 distinct-on-requires : tie.Need-distinct-on-requires
 distinct-on-requires c κs =
     let e = c .before .before .before .before .before .before .before in
-    let h = c .before .before .before .before .if1 .taken in
-    ((e .pre, length-take-le _ _ h, no-marks mostValues (length (e .args .view .now))), (record { rows = h; seats = omega arith }, record { rows = h; seats = omega arith }))
+    let h = c .before .before .before .before .if1 .taken in (
+      (e .pre, length-take-le _ _ h, no-marks mostValues (length (e .args .view .now))),
+      (record { rows = h; seats = omega arith }, record { rows = h; seats = omega arith }),
+    )
 
 same-length : tie.Need-same-length
 same-length c = search needs
@@ -48,8 +50,10 @@ slice-aggregate-distinct-on-6 c = search needs
 distinct-on-requires-2 : tie.Need-distinct-on-requires-2
 distinct-on-requires-2 c κs =
     let e = c .before .before .before .before .before .before .before in
-    let h = e .pre .few in
-    ((e .pre, length-take-le _ _ h, no-marks mostInView (length (e .args .view .now))), (record { rows = h; seats = omega arith }, record { rows = h; seats = omega arith }))
+    let h = e .pre .few in (
+      (e .pre, length-take-le _ _ h, no-marks mostInView (length (e .args .view .now))),
+      (record { rows = h; seats = omega arith }, record { rows = h; seats = omega arith }),
+    )
 
 same-length-2 : tie.Need-same-length-2
 same-length-2 c = search needs

@@ -30,9 +30,10 @@ returns : tie.Need-returns
 unfolding kept
 returns c =
     let o = c .before .before .list-positions in
-    let m = c .before .before .before .before .before .before .before .before .before .before .before .settle in (
-      o .ensures .0 ∙ ap (λ (l : List Bool). length (positions 0 l)) (m .ensures),
-      o .ensures .1 ∙ ap (λ (l : List Bool). positions 0 l ++ drop (o .result) (c .before .before .before .before .before .before .before .before .before .before .before .before .before .before .before .before .before .before .before .before .args .list .now)) (m .ensures),
+    let m = c .before .before .before .before .before .before .before .before .before .before .before in
+    let e = m .before .before .before .before .before .before .before .before .before in (
+      o .ensures .0 ∙ ap (λ (l : List Bool). length (positions 0 l)) (m .settle .ensures),
+      o .ensures .1 ∙ ap (λ (l : List Bool). positions 0 l ++ drop (o .result) (e .args .list .now)) (m .settle .ensures),
     )
 
 pub distinct-on-spec : {M : Type 1} → statement M

@@ -14,7 +14,7 @@ abbrev μ-loop : tie.MeasureT-loop
 μ-loop keep list₀ n₀ next₀ list n next = length keep - next
 
 loop-holds : tie.Need-loop-holds Inv-loop μ-loop
-loop-holds c = listed-start (c .args .keep .now) (c .args .list .now)
+loop-holds c = listed-start
 
 add-next : tie.Need-add-next Inv-loop μ-loop
 add-next c = search needs
@@ -23,20 +23,16 @@ shared-slice-read-if1 : tie.Need-shared-slice-read-if1 Inv-loop μ-loop
 shared-slice-read-if1 c = search needs
 
 mul-list : tie.Need-mul-list Inv-loop μ-loop
-mul-list c =
-    let e = c .before .before .before .before in
-    let l = c .before .before .before .loop in
-    search needs
+mul-list c = search needs
 
 slice-write-list : tie.Need-slice-write-list Inv-loop μ-loop
 slice-write-list c =
     let e = c .before .before .before .before in
     let l = c .before .before .before .loop in
-    omega (arith, listed-long (e .args .keep .now) (e .args .list .now) (l .list) (l .n) (l .next) (l .inv) (e .pre), l .inv .few, c .before .before .loop-test .taken, e .pre)
+    omega (arith, listed-long (l .inv) (e .pre), l .inv .few, c .before .before .loop-test .taken, e .pre)
 
 add-n : tie.Need-add-n Inv-loop μ-loop
 add-n c =
-    let e = c .before .before .before .before in
     let l = c .before .before .before .loop in
     record { fits = omega (arith, l .inv .few, l .inv .inside, c .before .before .loop-test .taken) }
 
@@ -47,28 +43,19 @@ loop-again : tie.Need-loop-again Inv-loop μ-loop
 loop-again c =
     let e = c .before .before .before .before in
     let l = c .before .before .before .loop in
-    listed-more (e .args .keep .now) (e .args .list .now) (l .list) (l .n) (l .next) (l .inv) (c .before .before .loop-test .taken) (e .pre) (c .if1 .taken)
+    listed-more (l .inv) (c .before .before .loop-test .taken) (e .pre) (c .if1 .taken)
 
 loop-less-2 : tie.Need-loop-less-2 Inv-loop μ-loop
 loop-less-2 c = search needs
 
 loop-again-2 : tie.Need-loop-again-2 Inv-loop μ-loop
-loop-again-2 c =
-    let e = c .before .before .before .before in
-    let l = c .before .before .before .loop in
-    listed-pass (e .args .keep .now) (e .args .list .now) (l .list) (l .n) (l .next) (l .inv) (c .before .before .loop-test .taken) (c .if1 .left)
+loop-again-2 c = listed-pass (c .before .before .before .loop .inv) (c .before .before .loop-test .taken) (c .if1 .left)
 
 same-length : tie.Need-same-length Inv-loop μ-loop
-same-length c =
-    let e = c .before .before in
-    let l = c .before .loop in
-    listed-long (e .args .keep .now) (e .args .list .now) (l .list) (l .n) (l .next) (l .inv) (e .pre)
+same-length c = listed-long (c .before .loop .inv) (c .before .before .pre)
 
 returns : tie.Need-returns Inv-loop μ-loop
-returns c =
-    let e = c .before .before in
-    let l = c .before .loop in
-    listed-end (e .args .keep .now) (e .args .list .now) (l .list) (l .n) (l .next) (l .inv) (c .loop-test .left)
+returns c = listed-end (c .before .loop .inv) (c .loop-test .left)
 
 pub list-positions-spec : {M : Type 1} → statement M
 list-positions-spec =

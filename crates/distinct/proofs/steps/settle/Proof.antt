@@ -1,7 +1,7 @@
 -- `settle` meets its contract: the steps work with as many values as there may be, and a column with fewer keeps the same rows. Assumes nothing.
-use mathlib.Core.Path.{refl, sym, ap, _∙_}
+use mathlib.Core.Path.{_≡_, refl, sym, ap, _∙_}
 use native.Mathlib.Omega.{arith}
-use lib.ListN.{length}
+use lib.ListN.{length, take}
 use lib.Seq.{length-take-le}
 use Rattle.sets.specs.Limits.{mostValues}
 use Rattle.theory.specs.Kept.{tries, marks}
@@ -11,19 +11,34 @@ use borrow.Author.Needs.{needs}
 use Rattle.distinct.proofs.steps.settle.Statement.{statement}
 use Rattle.distinct.proofs.steps.settle.Tie as tie
 
+-- the places before, seen from those behind them
+abbrev start : tie.After-mark-minimal → tie.Start
+start c = c .before .before .before .before .before .before .before .before
+
+abbrev first : tie.After-second-step-arg → tie.After-mark-minimal
+first c = c .before .before .before .before .before .before .before
+
+-- the places for the second step, which are the first ones, are as many as there may be values
+rows-seats : (c : tie.After-mark-minimal) → length (take mostValues (c .mark-minimal .last .1 .1 .1 .0)) ≡ mostValues
+rows-seats c =
+    length-take-le mostValues (c .mark-minimal .last .1 .1 .1 .0) (omega (arith, c .mark-minimal .kept .1 .1 .1 .0, start c .pre .1 .0 .seats))
+
+mates-seats : (c : tie.After-mark-minimal) → length (take mostValues (c .mark-minimal .last .1 .1 .0)) ≡ mostValues
+mates-seats c =
+    length-take-le mostValues (c .mark-minimal .last .1 .1 .0) (omega (arith, c .mark-minimal .kept .1 .1 .0, start c .pre .1 .1 .seats))
+
 mark-minimal-requires : tie.Need-mark-minimal-requires
 mark-minimal-requires c κs =
-    let e = c .before .before .before .before .before .before .before in
-    ((e .pre .0 .0, e .pre .0 .1, e .pre .0 .2, none-empty (e .args .d) (e .args .view .now) (e .pre .0 .3)), (e .pre .1 .1 .rows, e .pre .1 .0 .rows))
+    let e = c .before .before .before .before .before .before .before in (
+      (e .pre .0 .0, e .pre .0 .1, e .pre .0 .2, none-empty (e .args .d) (e .args .view .now) (e .pre .0 .3)),
+      (e .pre .1 .1 .rows, e .pre .1 .0 .rows),
+    )
 
 slice-relend-prefix-second-step : tie.Need-slice-relend-prefix-second-step
 slice-relend-prefix-second-step c = search needs
 
 slice-aggregate-second-step : tie.Need-slice-aggregate-second-step
-slice-aggregate-second-step c =
-    let e = c .before .before .before .before .before .before .before .before .before .before .before .before .before .before .before .before in
-    let m = c .before .before .before .before .before .before .before .before .mark-minimal in
-    sym (length-take-le mostValues (m .last .1 .1 .1 .0) (omega (arith, m .kept .1 .1 .1 .0, e .pre .1 .0 .seats)))
+slice-aggregate-second-step c = sym (rows-seats (first (c .before)))
 
 slice-aggregate-second-step-2 : tie.Need-slice-aggregate-second-step-2
 slice-aggregate-second-step-2 c = search needs
@@ -32,21 +47,14 @@ slice-relend-prefix-second-step-2 : tie.Need-slice-relend-prefix-second-step-2
 slice-relend-prefix-second-step-2 c = search needs
 
 slice-aggregate-second-step-3 : tie.Need-slice-aggregate-second-step-3
-slice-aggregate-second-step-3 c =
-    let e = c .before .before .before .before .before .before .before .before .before .before .before .before .before .before .before .before .before .before in
-    let m = c .before .before .before .before .before .before .before .before .before .before .mark-minimal in
-    sym (length-take-le mostValues (m .last .1 .1 .0) (omega (arith, m .kept .1 .1 .0, e .pre .1 .1 .seats)))
+slice-aggregate-second-step-3 c = sym (mates-seats (first (c .before .before .before)))
 
 second-step-requires : tie.Need-second-step-requires
 second-step-requires c κs =
-    let e = c .before .before .before .before .before .before .before .before .before .before .before .before .before .before .before .before .before .before in
-    let m = c .before .before .before .before .before .before .before .before .before .before .mark-minimal in (
-      (m .kept .1 .0 ∙ e .pre .0 .1, e .pre .0 .3),
-      (
-        length-take-le mostValues (m .last .1 .1 .1 .0) (omega (arith, m .kept .1 .1 .1 .0, e .pre .1 .0 .seats)),
-        refl,
-        length-take-le mostValues (m .last .1 .1 .0) (omega (arith, m .kept .1 .1 .0, e .pre .1 .1 .seats)),
-      ),
+    let m = first (c .before .before .before) in
+    let e = start m in (
+      (m .mark-minimal .kept .1 .0 ∙ e .pre .0 .1, e .pre .0 .3),
+      (rows-seats m, refl, mates-seats m),
     )
 
 same-length : tie.Need-same-length
@@ -61,9 +69,12 @@ same-length-3 c = search needs
 returns : tie.Need-returns
 unfolding marks
 returns c =
-    let e = c .before .before .before .before .before .before .before .before .before .before .before .before .before .before .before .before .before .before .before .before .before .before .before .before .before .before in
-    c .before .before .before .before .before .before .before .second-step .ensures ∙ ap (tries mostValues (e .args .view .now) (length (e .args .view .now)) 0) (c .before .before .before .before .before .before .before .before .before .before .before .before .before .before .before .before .before .before .mark-minimal .ensures)
-    ∙ sym (marks-any (e .args .d) mostValues (e .pre .0 .3 .column) (e .args .view .now) (column-rows (e .args .d) (e .args .view .now) (e .pre .0 .3)))
+    let o = c .before .before .before .before .before .before .before in
+    let m = first (o .before .before .before .before) in
+    let e = start m in
+    let view = e .args .view .now in
+    o .second-step .ensures ∙ ap (tries mostValues view (length view) 0) (m .mark-minimal .ensures)
+    ∙ sym (marks-any (e .args .d) mostValues (e .pre .0 .3 .column) view (column-rows (e .args .d) view (e .pre .0 .3)))
 
 pub settle-spec : {M : Type 1} → statement M
 settle-spec =
