@@ -1,4 +1,4 @@
-// Two sheets compared, field by field and place by place.
+// Two sheets, compared field by field and place by place.
 use sheet::Sheet;
 
 // The same desks hide the same table rows, and every place, used or not, has the same set and the same owner.
