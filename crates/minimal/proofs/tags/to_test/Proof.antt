@@ -2,8 +2,8 @@
 use mathlib.Core.Path.{refl, sym, _∙_}
 use mathlib.Core.Logic.{inl, inr}
 use borrow.Author.Needs.{needs}
-use Rattle.minimal.proofs.to_test.Statement.{statement}
-use Rattle.minimal.proofs.to_test.Tie as tie
+use Rattle.minimal.proofs.tags.to_test.Statement.{statement}
+use Rattle.minimal.proofs.tags.to_test.Tie as tie
 
 has-tag-requires : tie.Need-has-tag-requires
 has-tag-requires c κs = search needs

@@ -5,8 +5,8 @@ use native.Mathlib.Omega.{arith}
 use lib.ListN.{length}
 use borrow.Author.Needs.{needs}
 use Rattle.minimal.proofs.SingleRows.{Passed, pass-start, pass-other, pass-again, pass-new, pass-done}
-use Rattle.minimal.proofs.mark_singles.Statement.{statement}
-use Rattle.minimal.proofs.mark_singles.Tie as tie
+use Rattle.minimal.proofs.singles.mark_singles.Statement.{statement}
+use Rattle.minimal.proofs.singles.mark_singles.Tie as tie
 
 abbrev Inv-loop : tie.InvT-loop
 Inv-loop rows keep₀ singles₀ next₀ keep singles next = (next ≤ length rows) × Passed rows keep next singles

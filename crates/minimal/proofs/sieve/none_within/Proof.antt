@@ -6,8 +6,8 @@ use borrow.Author.Needs.{needs}
 use Rattle.sets.specs.Limits.{wordBits}
 use Rattle.minimal.specs.Marking.{NoneWithin}
 use Rattle.minimal.proofs.Scans.{Tells, tells, scan-some, scan-more, scan-none, four-some, four-none}
-use Rattle.minimal.proofs.none_within.Statement.{statement}
-use Rattle.minimal.proofs.none_within.Tie as tie
+use Rattle.minimal.proofs.sieve.none_within.Statement.{statement}
+use Rattle.minimal.proofs.sieve.none_within.Tie as tie
 
 abbrev Inv-loop : tie.InvT-loop
 Inv-loop mins found x others next₀ next = (next ≤ found) × Tells mins others x × NoneWithin mins next x

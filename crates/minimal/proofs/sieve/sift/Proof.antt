@@ -5,8 +5,8 @@ use lib.ListN.{length}
 use borrow.Author.Needs.{needs}
 use Rattle.minimal.proofs.Links.{heads-past}
 use Rattle.minimal.proofs.Sifting.{Levels, levels-start, levels-done, level-small, level-less, level-sieve, level-judged}
-use Rattle.minimal.proofs.sift.Statement.{statement}
-use Rattle.minimal.proofs.sift.Tie as tie
+use Rattle.minimal.proofs.sieve.sift.Statement.{statement}
+use Rattle.minimal.proofs.sieve.sift.Tie as tie
 
 abbrev Inv-loop : tie.InvT-loop
 Inv-loop rows singles keep₀ next mins₀ head left₀ found₀ keep mins left found = Levels rows keep mins found left × (length mins ≡ length mins₀)

@@ -4,8 +4,8 @@ use mathlib.Core.Path.{ap}
 use lib.ListN.{set}
 use borrow.Author.Needs.{needs}
 use Rattle.sets.specs.Limits.{wordBits}
-use Rattle.minimal.proofs.add_tag.Statement.{statement}
-use Rattle.minimal.proofs.add_tag.Tie as tie
+use Rattle.minimal.proofs.tags.add_tag.Statement.{statement}
+use Rattle.minimal.proofs.tags.add_tag.Tie as tie
 
 mul-with : tie.Need-mul-with
 mul-with c = search needs

@@ -7,8 +7,8 @@ use native.Mathlib.Omega.{arith}
 use borrow.Author.Tests.{eqb-true, eqb-false}
 use Rattle.theory.specs.Pairings.{at}
 use borrow.Author.Needs.{needs}
-use Rattle.minimal.proofs.repeats.Statement.{statement}
-use Rattle.minimal.proofs.repeats.Tie as tie
+use Rattle.minimal.proofs.chains.repeats.Statement.{statement}
+use Rattle.minimal.proofs.chains.repeats.Tie as tie
 
 returns : tie.Need-returns
 returns c = (λ t. absurd (false≢true t), λ _ t. suc-ne-zero (t .0) (sym (t .1) ∙ c .if1 .taken))

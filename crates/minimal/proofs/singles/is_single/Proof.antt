@@ -1,8 +1,8 @@
 -- `minimal::is_single` meets its contract: the row is compared with the set of its lowest value. Assumes nothing.
 use Rattle.minimal.proofs.SingleRows.{lowest-less, one-value}
 use borrow.Author.Needs.{needs}
-use Rattle.minimal.proofs.is_single.Statement.{statement}
-use Rattle.minimal.proofs.is_single.Tie as tie
+use Rattle.minimal.proofs.singles.is_single.Statement.{statement}
+use Rattle.minimal.proofs.singles.is_single.Tie as tie
 
 lowest-requires : tie.Need-lowest-requires
 lowest-requires c κs = search needs

@@ -10,9 +10,9 @@ use Rattle.theory.specs.Pairings.{at}
 use Rattle.minimal.specs.Marking.{tagWords, withTag, ToTest}
 use Rattle.minimal.proofs.Sifting.{Walk, walk-start, walk-on, walk-room, walk-miss, walk-hit, sieve-next}
 use Rattle.minimal.proofs.Counts.{marked-most}
-use Rattle.minimal.proofs.Tags.{Tagged, tagged-start, tagged-more, tested, tag-small}
-use Rattle.minimal.proofs.level.Statement.{statement}
-use Rattle.minimal.proofs.level.Tie as tie
+use Rattle.minimal.proofs.RowTags.{Tagged, tagged-start, tagged-more, tested, tag-small}
+use Rattle.minimal.proofs.sieve.level.Statement.{statement}
+use Rattle.minimal.proofs.sieve.level.Tie as tie
 
 abbrev Inv-loop : tie.InvT-loop
 Inv-loop rows next head k keep₀ mins₀ found₀ base tags₀ place₀ keep mins found tags place =

@@ -1,8 +1,8 @@
 -- `minimal::tag` meets its contract. Assumes nothing.
 use mathlib.Core.Path.{refl}
 use Rattle.minimal.specs.Marking.{tagOf}
-use Rattle.minimal.proofs.tag.Statement.{statement}
-use Rattle.minimal.proofs.tag.Tie as tie
+use Rattle.minimal.proofs.tags.tag.Statement.{statement}
+use Rattle.minimal.proofs.tags.tag.Tie as tie
 
 returns : tie.Need-returns
 unfolding tagOf

@@ -12,8 +12,8 @@ use Rattle.minimal.specs.Marking.{Chains, Sizes, Candidate}
 use Rattle.minimal.proofs.Apart.{apart-clear, common-not-clear}
 use Rattle.minimal.proofs.Counts.{some-ones}
 use Rattle.minimal.proofs.Links.{chains-start, sizes-start, chains-skip, sizes-skip, chains-more, sizes-more}
-use Rattle.minimal.proofs.chain.Statement.{statement}
-use Rattle.minimal.proofs.chain.Tie as tie
+use Rattle.minimal.proofs.chains.chain.Statement.{statement}
+use Rattle.minimal.proofs.chains.chain.Tie as tie
 
 abbrev Inv-loop : tie.InvT-loop
 Inv-loop rows singles next₀ head₀ sizes₀ left₀ next head sizes left =
