@@ -9,7 +9,7 @@ ghost use Rattle.minimal.specs.Marking.{NoneEmpty, Singles, Repeats, Pas
 // How many sizes a row can have: from 0 values to all the bits of a word.
 pub const SIZES: usize = sets::BITS + 1;
 
-// Row i is the same as the row before it, and so not the first of equal ones.
+// Row i is the same as the row before it, and so not the first of equal ones. A view of equal rows would take half as long again.
 fn repeats(rows: &[u64], i: usize) -> bool
     requires { ⌜ i < length (now rows) ⌝ }
     ensures { λ r. ⌜ (r ≡ true → Repeats (now (rows .entry)) i) × (r ≡ false → Repeats (now (rows .entry)) i → ⊥) ⌝ }
