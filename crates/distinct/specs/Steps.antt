@@ -36,14 +36,14 @@ pub record Pairs (view : List ℕ) (ms : List Bool) (s : Seats) (rows columns ma
   pub listed : take (s .used) rows ≡ rowsAt view places
   pub small : (i : ℕ) → Below (s .d) (at view i)
 
--- ---- the rows before place n have been offered seats: those that are marked, or those that are not
+-- ---- a turn of offers: first the marked rows are offered seats, then the others; those before place n have been
 
--- whose pairing sits on the seats: the marked rows before n; and then all marked rows
+-- the marked rows of which a largest pairing sits on the seats: those before n; in the others' turn all of them
 unfoldable pub offered : Bool → ℕ → List Bool → List Bool
 offered true n ms = before n ms
 offered false n ms = ms
 
--- the marks: as they were; and then with those of the rows that were tried and kept
+-- the marks: as they were; in the others' turn, with those of the rows that were tried and kept
 unfoldable pub marksThen : Bool → List ℕ → ℕ → List Bool → List Bool
 marksThen true view n ms = ms
 marksThen false view n ms = tries mostValues view n zero ms

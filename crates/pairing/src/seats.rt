@@ -5,12 +5,12 @@ ghost use mathlib.Core.Path.{_≡_};
 ghost use mathlib.Core.Logic.{_≢_};
 ghost use mathlib.Core.Bool.{true};
 ghost use lib.Bits.{bitAnd};
-ghost use Prim.Native.Nat.{_<_, _≤_};
-ghost use lib.ListN.{length};
+ghost use Prim.Native.Nat.{_<_};
 ghost use Rattle.sets.specs.Limits.{mostValues};
 ghost use Rattle.sets.specs.Sets.{has};
-ghost use Rattle.pairing.specs.Asking.{Inside, Index};
-ghost use Rattle.pairing.specs.Seats.{seats, Entered, Mates, Unreached, Below, Sitting, Seeks, taking, OfSeat, Hopeless};
+ghost use Rattle.pairing.specs.Asking.{Inside};
+ghost use Rattle.pairing.specs.Seats.{seats, Mates, Unreached, Below, Sitting, Seeks, taking, OfSeat, Hopeless};
+use crate::columns;
 use crate::search::search;
 
 // Beside the seats' rows, columns and mates: `d` is how many values the column has, `free` the values below d that have no row,
@@ -24,42 +24,6 @@ pub struct Seats {
     pub dead: u64,
     pub fresh: u64,
     pub heavy: u64,
-}
-
-// A row of at most so many values is light. Any number would be right; were all rows light, 64 rows of 32 values would take three times as long.
-const LIGHT: u32 = 8;
-
-// Row i goes into the columns of its values.
-fn enter(row: u64, i: usize, columns: &mut [u64])
-    requires { ⌜ (i < seats) × (length (now columns) ≡ mostValues) ⌝ }
-    ensures { λ _. ⌜ Entered row i (now (columns .entry)) (now (columns .exit)) ⌝ }
-{
-    let mut left = row;
-    while left != 0 {
-        let v = sets::lowest(left);
-        left = sets::rest(left);
-        columns[v] = sets::with(columns[v], i);
-    }
-}
-
-// The light rows, from seat `entered` on, go into columns, where a search finds them at once; a row of many values is found soon anyway.
-// They wait for a search, since most small views need none: entered as they sit, 16 rows would take a third longer.
-fn enter_light(entered: usize, heavy: u64, rows: &[u64], columns: &mut [u64]) -> u64
-    requires { ⌜ (length (now rows) ≤ seats) × Index (now rows) (now columns) heavy ⌝ }
-    ensures { λ r. ⌜ Index (now (rows .entry)) (now (columns .exit)) r ⌝ }
-{
-    let mut left = heavy;
-    let mut next = entered;
-    while next < rows.len() {
-        let i = next;
-        next += 1;
-        let row = rows[i];
-        if u64::count_ones(row) <= LIGHT {
-            enter(row, i, columns);
-            left = sets::without(left, i);
-        }
-    }
-    left
 }
 
 // The values of the rows that were not asked.
@@ -142,7 +106,7 @@ fn seek(row: u64, s: Seats, rows: &mut [u64], columns: &mut [u64], mates: &mut [
     let used = s.used;
     rows[used] = row;
     mates[used] = 0;
-    let heavy = enter_light(s.entered, s.heavy, &rows[..used], columns);
+    let heavy = columns::enter_light(s.entered, s.heavy, &rows[..used], columns);
     let end = used + 1;
     let from = sets::minus(s.free, s.fresh);
     let mut asked: u64 = 0;

@@ -6,8 +6,8 @@ use native.Mathlib.Omega.{arith}
 use lib.ListN.{length}
 use Rattle.pairing.specs.Asking.{Index}
 use Rattle.pairing.proofs.SeatColumns.{index-entered}
-use Rattle.pairing.proofs.seats.enter_light.Statement.{statement}
-use Rattle.pairing.proofs.seats.enter_light.Tie as tie
+use Rattle.pairing.proofs.columns.enter_light.Statement.{statement}
+use Rattle.pairing.proofs.columns.enter_light.Tie as tie
 
 abbrev Inv-loop : tie.InvT-loop
 Inv-loop entered heavy rows columns₀ left₀ next₀ columns left next = Index rows columns left

@@ -2,8 +2,8 @@
 use borrow.Author.Needs.{needs}
 use native.Mathlib.Omega.{arith}
 use Rattle.pairing.proofs.SeatColumns.{Entering, enter-start, enter-end, enter-small, enter-less, enter-next}
-use Rattle.pairing.proofs.seats.enter.Statement.{statement}
-use Rattle.pairing.proofs.seats.enter.Tie as tie
+use Rattle.pairing.proofs.columns.enter.Statement.{statement}
+use Rattle.pairing.proofs.columns.enter.Tie as tie
 
 abbrev Inv-loop : tie.InvT-loop
 Inv-loop row i columns₀ left₀ columns left = Entering row i columns₀ columns left
