@@ -57,7 +57,8 @@ pub extern "C" fn foliokettle_call(
     n: u64,
     list: &mut [usize],
 ) -> Handed
-    ensures { λ r. ⌜ (r ≡ handedBy (askedBy kind n) d (now (table .entry)) sheet desk (length (now (list .entry)))) × (now (list .exit) ≡ listOf (askedBy kind n) d (now (table .entry)) sheet desk (now (list .entry))) ⌝ }
+    ensures { λ r. ⌜ (r ≡ handedBy (askedBy kind n) d (now (table .entry)) sheet desk (length (now (list .entry))))
+        × (now (list .exit) ≡ listOf (askedBy kind n) d (now (table .entry)) sheet desk (now (list .entry))) ⌝ }
 {
     let asked = spoken::heard(kind, n);
     let Asked::One(call) = asked else {
@@ -110,7 +111,9 @@ pub extern "C" fn foliokettle_alter(
     n: u64,
     list: &mut [usize],
 ) -> Told
-    ensures { λ r. ⌜ (r ≡ handedBy (askedBy kind n) d (now (table .entry)) (now (sheet .entry)) desk (length (now (list .entry))) .told) × (now (sheet .exit) ≡ handedBy (askedBy kind n) d (now (table .entry)) (now (sheet .entry)) desk (length (now (list .entry))) .sheet) × (now (list .exit) ≡ listOf (askedBy kind n) d (now (table .entry)) (now (sheet .entry)) desk (now (list .entry))) ⌝ }
+    ensures { λ r. ⌜ (r ≡ handedBy (askedBy kind n) d (now (table .entry)) (now (sheet .entry)) desk (length (now (list .entry))) .told)
+        × (now (sheet .exit) ≡ handedBy (askedBy kind n) d (now (table .entry)) (now (sheet .entry)) desk (length (now (list .entry))) .sheet)
+        × (now (list .exit) ≡ listOf (askedBy kind n) d (now (table .entry)) (now (sheet .entry)) desk (now (list .entry))) ⌝ }
 {
     let before = *sheet;
     let handed = foliokettle_call(table, d, before, desk, kind, n, list);

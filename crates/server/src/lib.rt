@@ -16,7 +16,9 @@ pub fn alter(
     call: Call,
     list: &mut [usize],
 ) -> Answer
-    ensures { λ r. ⌜ (r ≡ answered d (now (table .entry)) (now (sheet .entry)) desk call (length (now (list .entry)))) × (now (sheet .exit) ≡ sheetAfter d (now (table .entry)) (now (sheet .entry)) desk call (length (now (list .entry)))) × (now (list .exit) ≡ told d (now (table .entry)) (now (sheet .entry)) desk call (now (list .entry)) .list) ⌝ }
+    ensures { λ r. ⌜ (r ≡ answered d (now (table .entry)) (now (sheet .entry)) desk call (length (now (list .entry))))
+        × (now (sheet .exit) ≡ sheetAfter d (now (table .entry)) (now (sheet .entry)) desk call (length (now (list .entry))))
+        × (now (list .exit) ≡ told d (now (table .entry)) (now (sheet .entry)) desk call (now (list .entry)) .list) ⌝ }
 {
     let before = *sheet;
     let reply = store::desk_call(table, d, before, desk, call, list);
@@ -33,7 +35,8 @@ pub fn altered(
     call: Call,
     list: &mut [usize],
 ) -> Reply
-    ensures { λ r. ⌜ (r ≡ replied d (now (table .entry)) sheet desk call (length (now (list .entry)))) × (now (list .exit) ≡ told d (now (table .entry)) sheet desk call (now (list .entry)) .list) ⌝ }
+    ensures { λ r. ⌜ (r ≡ replied d (now (table .entry)) sheet desk call (length (now (list .entry))))
+        × (now (list .exit) ≡ told d (now (table .entry)) sheet desk call (now (list .entry)) .list) ⌝ }
 {
     let mut held = sheet;
     let answer = alter(&mut held, table, d, desk, call, list);

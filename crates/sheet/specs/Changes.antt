@@ -15,7 +15,15 @@ use Rattle.sheet.specs.Sheets.{owns, markWords, allMarks, word}
 -- 'a fresh sheet for this d and T: no marks, no rows'
 unfoldable pub freshSheet : ℕ → ℕ → ℕ → Sheet
 freshSheet d rows desks =
-    record { d = d; rows = rows; desks = desks; used = zero; marks = replicate allMarks zero; sets = replicate mostPlaces zero; owners = replicate mostPlaces zero }
+    record {
+      d = d;
+      rows = rows;
+      desks = desks;
+      used = zero;
+      marks = replicate allMarks zero;
+      sets = replicate mostPlaces zero;
+      owners = replicate mostPlaces zero;
+    }
 
 -- the sheet with other marks
 abbrev pub marking : Sheet → List ℕ → Sheet

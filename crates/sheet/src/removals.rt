@@ -9,7 +9,8 @@ ghost use Rattle.sheet.specs.Changes.{padded};
 ghost use Rattle.sheet.specs.Removals.{ClosedUp, TakenOut};
 use crate::Sheet;
 
-// Whether a row goes: it is one of the desk's, and of the desk's rows it is one of those from number `from` to `upto` - 1. The desk has `seen` rows before it.
+// Whether a row goes: it is one of the desk's, and of the desk's rows it is one of those from number `from` to `upto` - 1.
+// The desk has `seen` rows before it.
 fn goes(desk: usize, from: usize, upto: usize, owner: usize, seen: usize) -> bool
     ensures { λ r. ⌜ r ≡ (eqb owner desk && (leb from seen && ltb seen upto)) ⌝ }
 {

@@ -45,7 +45,8 @@ pub fn check<'a>(
     counts: &mut [usize],
 ) -> bool
     requires { ⌜ now counts ≡ replicate mostDesks zero ⌝ }
-    ensures { λ r. ⌜ Surveyed sound (sheetOf d rows desks used (now (marks .entry)) (now (sets .entry)) (now (owners .entry))) r (now (counts .exit)) ⌝ }
+    ensures { λ r. ⌜ Surveyed sound (sheetOf d rows desks used (now (marks .entry)) (now (sets .entry)) (now (owners .entry)))
+        r (now (counts .exit)) ⌝ }
 {
     if !shaped(d, rows, desks, used) {
         return false;

@@ -1,4 +1,5 @@
--- `Answers`: the refusal numbers and their order. `Desks`: what one desk is told. `Calls`: begin and the desk calls on the class sheet. `Promise`: demand 3.
+-- `Answers`: answers by the request's numbers. `Desks`: what one desk is told. `Calls`: begin and the desk calls on the class sheet.
+-- `Promise`: demand 3.
 -- For the code: `Views`: what it is to gather a view. `Serving`: what a desk's call may trust, and what it owes.
 pub mod Answers
 pub mod Desks

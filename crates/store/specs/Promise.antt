@@ -55,8 +55,8 @@ unfoldable pub member : List ℕ → ℕ → Bool
 member [] n = false
 member (m ∷ ms) n = eqb m n || member ms n
 
--- What desk k alone is told, from its history h: 'Look, count, distinct and refusals 6 to 9, 11 and 12 follow from this, the table and the present call;
--- 5 follows from the number of desks begun.'
+-- What desk k alone is told, from its history h: 'Look, count, distinct and refusals 6 to 9, 11 and 12 follow from this, the table and
+-- the present call; 5 follows from the number of desks begun.'
 unfoldable pub alone : ℕ → List ℕ → ℕ → List Call → Turn → Told
 alone d table desks h t =
     telling d table (member (hiddenIn h)) (ownIn h) (t .call) (t .list)
@@ -107,7 +107,8 @@ pub record Demand3 (d : ℕ) (table : List ℕ) (desks : ℕ) (tell : Store) : T
       ↔ ((proper d desks t ≡ true) × (promised ≤ heldBy tell (t .desk) past) × (heldBy tell (t .desk) past < mostHeld)
       × (usedBy tell desks past + owedBy tell desks past ≡ mostPlaces))
   -- apart from it, what a desk is told is what it would be told alone
-  pub as-alone : (past : List Turn) (t : Turn) → numberOf (tell past t .answer) ≢ 10 → tell past t ≡ alone d table desks (history tell (t .desk) past) t
+  pub as-alone : (past : List Turn) (t : Turn) → numberOf (tell past t .answer) ≢ 10
+      → tell past t ≡ alone d table desks (history tell (t .desk) past) t
   -- and refusal 10 writes nothing
   pub no-room-list : (past : List Turn) (t : Turn) → numberOf (tell past t .answer) ≡ 10 → tell past t .list ≡ t .list
 

@@ -64,7 +64,8 @@ Changed used marks sets owners k c used′ marks′ sets′ owners′ =
     (d rows desks : ℕ) → sheetOf d rows desks used′ marks′ sets′ owners′ ≡ changed (sheetOf d rows desks used marks sets owners) k c
 
 -- what comes of a call: the answer, the sheet and the list
-pub record CarriedOut (d : ℕ) (table : List ℕ) (s : Sheet) (k : ℕ) (c : Call) (old : List ℕ) (r : Answer) (after : Sheet) (list : List ℕ) : Type 0 where
+pub record CarriedOut (d : ℕ) (table : List ℕ) (s : Sheet) (k : ℕ) (c : Call) (old : List ℕ)
+    (r : Answer) (after : Sheet) (list : List ℕ) : Type 0 where
   pub answer-is : r ≡ answered d table s k c (length old)
   pub sheet-is : after ≡ sheetAfter d table s k c (length old)
   pub list-is : list ≡ told d table s k c old .list

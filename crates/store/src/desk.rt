@@ -102,7 +102,8 @@ fn look(rows: &[u64], n: usize) -> Answer
 // The kept rows of the view are listed.
 fn list_kept(d: usize, rows: &[u64], list: &mut [usize]) -> Answer
     requires { ⌜ (length (now rows) ≤ mostInView) × InColumn d (now rows) ⌝ }
-    ensures { λ r. ⌜ (r ≡ decided Refused (listCases (length (now (list .entry))) (length (now (rows .entry)))) (Listed (length (kept d (now (rows .entry))))))
+    ensures { λ r. ⌜ (r ≡ decided Refused (listCases (length (now (list .entry))) (length (now (rows .entry))))
+        (Listed (length (kept d (now (rows .entry))))))
         × (now (list .exit) ≡ listAfter (kept d (now (rows .entry))) r (now (list .entry))) ⌝ }
 {
     if list.len() < rows.len() {

@@ -103,7 +103,8 @@ pub fn desk_call(
     call: Call,
     list: &mut [usize],
 ) -> Reply
-    ensures { λ r. ⌜ (r ≡ replied d (now (table .entry)) sheet desk call (length (now (list .entry)))) × (now (list .exit) ≡ told d (now (table .entry)) sheet desk call (now (list .entry)) .list) ⌝ }
+    ensures { λ r. ⌜ (r ≡ replied d (now (table .entry)) sheet desk call (length (now (list .entry))))
+        × (now (list .exit) ≡ told d (now (table .entry)) sheet desk call (now (list .entry)) .list) ⌝ }
 {
     let mut marks = sheet.marks;
     let mut sets = sheet.sets;

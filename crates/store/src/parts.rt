@@ -29,7 +29,8 @@ fn respond<'a>(
     list: &mut [usize],
 ) -> Answer
     ensures { λ r. ⌜ Responded d (now (table .entry))
-        (sheetOf sheetd rows desks used (now (marks .entry)) (now (sets .entry)) (now (owners .entry))) desk call (now (list .entry)) r (now (list .exit)) ⌝ }
+        (sheetOf sheetd rows desks used (now (marks .entry)) (now (sets .entry)) (now (owners .entry)))
+        desk call (now (list .entry)) r (now (list .exit)) ⌝ }
 {
     let first = table::judge(table, d);
     if !accepted(first) {
@@ -97,7 +98,8 @@ pub struct Outcome {
     pub used: usize,
 }
 
-// A desk calls, and the parts of the sheet are altered where they lie. Only an accepted change moves them, and only an accepted DISTINCT writes to the list.
+// A desk calls, and the parts of the sheet are altered where they lie. Only an accepted change moves them, and only an accepted question
+// writes to the list.
 // `desk_call` and the host's call are thin doors to it: a sheet that is handed on from function to function is copied each time.
 pub fn carry_out(
     table: &[u64],

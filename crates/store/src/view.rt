@@ -12,7 +12,8 @@ use sheet::Sheet;
 // The table rows that the desk does not hide go to the front of the rows. Answers how many.
 fn put_table(table: &[u64], marks: &[u64; Sheet::MARKS], desk: usize, rows: &mut [u64]) -> usize
     requires { ⌜ (desk < mostDesks) × (length (now table) ≤ mostRows) × (length (now rows) ≡ mostInView) ⌝ }
-    ensures { λ r. ⌜ Filled (λ i. not (hides (now (marks .entry)) desk i)) (now (table .entry)) (length (now (table .entry))) 0 (now (rows .entry)) r (now (rows .exit)) ⌝ }
+    ensures { λ r. ⌜ Filled (λ i. not (hides (now (marks .entry)) desk i)) (now (table .entry))
+        (length (now (table .entry))) 0 (now (rows .entry)) r (now (rows .exit)) ⌝ }
 {
     let mut n: usize = 0;
     let mut next: usize = 0;
@@ -64,7 +65,8 @@ pub fn gather<'a>(
 ) -> usize
     requires { ⌜ (desk < mostDesks) × (length (now table) ≤ mostRows) × (used ≤ mostPlaces) × (countTo (owns (now owners) desk) used ≤ mostHeld)
         × (length (now rows) ≡ mostInView) ⌝ }
-    ensures { λ r. ⌜ Viewed (now (table .entry)) (hides (now (marks .entry)) desk) (those (owns (now (owners .entry)) desk) (now (sets .entry)) used) r (now (rows .exit)) ⌝ }
+    ensures { λ r. ⌜ Viewed (now (table .entry)) (hides (now (marks .entry)) desk)
+        (those (owns (now (owners .entry)) desk) (now (sets .entry)) used) r (now (rows .exit)) ⌝ }
 {
     let seen = put_table(table, marks, desk, rows);
     put_own(desk, used, sets, owners, seen, rows)
