@@ -1,8 +1,7 @@
 // A lesson of calls that nobody has thought out: five desks call in a class of four, for rows and sets that are there or not.
 use sheet::Sheet;
 use show::Tally;
-use show::number;
-use show::text;
+use show::say;
 use turns::Told;
 use turns::Turn;
 
@@ -15,8 +14,17 @@ const KINDS: [u64; 11] = [2, 0, 2, 4, 5, 1, 2, 6, 2, 2, 6];
 
 const BELOW: [usize; 11] = [17, 7, 15, 13, 1, 6, 9, 1, 13, 16, 1];
 
-// The table, as a script has it.
-const TABLE: [u8; 28] = *b"| 6 rows, d 4: 1 3 3 12 6 15";
+const TABLE: [u64; 6] = [1, 3, 3, 12, 6, 15];
+
+const D: usize = 4;
+
+// The sheet, how often every door told the same, how many turns were accepted, and all that was told, mixed into one number.
+struct Lesson {
+    sheet: Sheet,
+    told: Tally,
+    accepted: Tally,
+    sum: u64,
+}
 
 fn rest(i: usize, below: usize) -> usize {
     if below == 0 { 0 } else { i % below }
@@ -50,39 +58,61 @@ fn mixed_in(sum: u64, told: Told) -> u64 {
     )
 }
 
-// Every turn through every door: what the first door tells is what the others must tell.
-pub fn play(start: Tally) -> Tally {
-    let script = TABLE;
+// Turn i through every door: what the first door tells is what the others must tell.
+fn play_turn(lesson: Lesson, i: usize) -> Lesson {
+    let table = TABLE;
+    let sheet = lesson.sheet;
+    let told = lesson.told;
+    let accepted = lesson.accepted;
+    let mut turn = drawn(i);
+    let first = turns::at_door(0, &table, D, sheet, turn);
+    let must = first.told;
+    turn.must = must;
+    let outcome = turns::once(&table, D, sheet, turn);
+    let after = outcome.sheet;
+    Lesson {
+        sheet: after,
+        told: told.count(outcome.right),
+        accepted: accepted.count(must.refusal == 0),
+        sum: mixed_in(lesson.sum, must),
+    }
+}
+
+// The class of four that begins.
+fn begin(told: Tally) -> Lesson {
+    let table = TABLE;
     let begun = turns::once(
-        &script,
-        0,
+        &table,
+        D,
         Sheet::fresh(0, 0, 0),
         turns::read_turn(b"10 0 4"),
     );
-    let mut sheet = begun.sheet;
-    let mut tally = start;
-    let mut accepted = Tally::fresh();
-    let mut sum: u64 = 0;
+    let sheet = begun.sheet;
+    Lesson {
+        sheet,
+        told,
+        accepted: Tally::fresh(),
+        sum: 0,
+    }
+}
+
+fn report(accepted: Tally, sum: u64) {
+    say(
+        b"\nA lesson of 900 turns that nobody has thought out: # accepted, # refused. What is told comes to #.\n",
+        &[accepted.agree as u64, accepted.differ as u64, sum],
+    );
+}
+
+// All turns.
+pub fn play(start: Tally) -> Tally {
+    let mut lesson = begin(start);
     let mut next: usize = 0;
     while next < TURNS {
-        let mut turn = drawn(next);
+        let i = next;
         next += 1;
-        let first = turns::at_door(0, &script, 0, sheet, turn);
-        let told = first.told;
-        turn.must = told;
-        let outcome = turns::once(&script, 0, sheet, turn);
-        let after = outcome.sheet;
-        sheet = after;
-        tally = tally.count(outcome.right);
-        accepted = accepted.count(told.refusal == 0);
-        sum = mixed_in(sum, told);
+        lesson = play_turn(lesson, i);
     }
-    text(b"\nA lesson of 900 turns that nobody has thought out: ");
-    number(accepted.agree);
-    text(b" accepted, ");
-    number(accepted.differ);
-    text(b" refused. What is told comes to ");
-    number(sum as usize);
-    text(b".\n");
-    tally
+    let accepted = lesson.accepted;
+    report(accepted, lesson.sum);
+    lesson.told
 }

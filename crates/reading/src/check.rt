@@ -1,10 +1,8 @@
 // One file through `read` and through the reader.
-ghost use mathlib.Core.Path.{_≡_};
-ghost use lib.ListN.{length};
+ghost use Prim.Native.Nat.{_≤_};
 use files::Lesson;
 use files::Row;
-use show::Tally;
-use show::number;
+use show::say;
 use show::text;
 
 // What stands in the list before the call, to see what is written.
@@ -14,10 +12,10 @@ const PLACES: usize = 300;
 
 // What an answer says: the refusal number or 0, the row number, d and T.
 pub struct Said {
-    pub refusal: usize,
-    pub row: usize,
-    pub d: usize,
-    pub rows: usize,
+    pub refusal: u64,
+    pub row: u64,
+    pub d: u64,
+    pub rows: u64,
 }
 
 fn heard(lesson: Lesson) -> Said {
@@ -25,12 +23,12 @@ fn heard(lesson: Lesson) -> Said {
         Lesson::Read(d, rows) => Said {
             refusal: 0,
             row: 0,
-            d,
-            rows,
+            d: d as u64,
+            rows: rows as u64,
         },
-        Lesson::Refused(refusal) => Said {
-            refusal: refusals::number(refusal),
-            row: refusals::row(refusal),
+        Lesson::Refused(why) => Said {
+            refusal: refusals::number(why) as u64,
+            row: refusals::row(why) as u64,
             d: 0,
             rows: 0,
         },
@@ -41,18 +39,21 @@ fn same(a: Said, b: Said) -> bool {
     a.refusal == b.refusal && a.row == b.row && a.d == b.d && a.rows == b.rows
 }
 
-// What place i of the list should hold.
-fn wanted_at(cells: &[u64], i: usize) -> u64 {
+// What place i of the list should hold: a cell where the file is read and has so many, or else what stood there.
+fn wanted_at(refusal: u64, cells: &[u64], i: usize) -> u64 {
+    if refusal != 0 {
+        return BEFORE;
+    }
     if i < cells.len() { cells[i] } else { BEFORE }
 }
 
-// The list has the cells, and what stood there behind them.
-fn list_right(list: &[u64], cells: &[u64]) -> bool {
+// Every place of the list holds what it should.
+fn list_right(list: &[u64; PLACES], refusal: u64, cells: &[u64]) -> bool {
     let mut next: usize = 0;
-    while next < list.len() {
+    while next < PLACES {
         let i = next;
         next += 1;
-        if list[i] != wanted_at(cells, i) {
+        if list[i] != wanted_at(refusal, cells, i) {
             return false;
         }
     }
@@ -92,60 +93,57 @@ fn turns_right(file: &[u8], cells: &[u64]) -> bool {
             return false;
         }
     }
-    no_more(file, cells.len()) && no_more(file, cells.len())
+    no_more(file, next) && no_more(file, next)
 }
 
 // The answer in words.
-fn say(answer: Said) {
+fn tell(answer: Said) {
     if answer.refusal == 0 {
-        text(b"d ");
-        number(answer.d);
-        text(b", ");
-        number(answer.rows);
-        text(b" rows");
-    } else {
-        text(b"refused with ");
-        number(answer.refusal);
-        if answer.refusal == 26 {
-            text(b" at row ");
-            number(answer.row);
-        }
+        say(b"d #, # rows", &[answer.d, answer.rows]);
+        return;
+    }
+    say(b"refused with #", &[answer.refusal]);
+    if answer.refusal == 26 {
+        say(b" at row #", &[answer.row]);
     }
 }
 
-// Reads the file into the first places of the list, as many as are lent.
-fn read_into(file: &[u8], list: &mut [u64], places: usize) -> Said
-    ensures { λ _. ⌜ length (now (list .exit)) ≡ length (now (list .entry)) ⌝ }
+// How many places are lent: as many as asked for, where there are so many.
+fn lent(places: usize) -> usize
+    ensures { λ r. ⌜ r ≤ 300 ⌝ }
 {
-    if list.len() < places {
-        return heard(files::read(file, list));
-    }
-    heard(files::read(file, &mut list[..places]))
+    if places < PLACES { places } else { PLACES }
 }
 
-// The label, what is wanted, and whether all of it came. `cells` go to the list; `turns` are what the reader hands out.
-pub fn check(
-    tally: Tally,
-    label: &[u8],
-    file: &[u8],
-    places: usize,
-    wanted: Said,
-    cells: &[u64],
-    turns: &[u64],
-) -> Tally {
-    let mut list = [BEFORE; PLACES];
-    let ours = read_into(file, &mut list, places);
-    let right = same(ours, wanted) && list_right(&list, cells) && turns_right(file, turns);
-    text(b"  ");
-    text(label);
-    text(b": ");
-    say(wanted);
+// The answer, the list and the reader's turns are as they must be.
+fn right(ours: Said, must: Said, list: &[u64; PLACES], file: &[u8], cells: &[u64]) -> bool {
+    if !same(ours, must) {
+        return false;
+    }
+    if !list_right(list, must.refusal, cells) {
+        return false;
+    }
+    turns_right(file, cells)
+}
+
+// Whether it came right, and the answer where it did not.
+fn conclude(right: bool, ours: Said) {
     if right {
         text(b" - as it should\n");
-    } else {
-        text(b" - DIFFERS: ");
-        say(ours);
-        text(b"\n");
+        return;
     }
-    tally.count(right)
+    text(b" - DIFFERS: ");
+    tell(ours);
+    text(b"\n");
+}
+
+// Says what must be answered, and whether all of it came.
+pub fn check(file: &[u8], places: usize, must: Said, cells: &[u64]) -> bool {
+    tell(must);
+    let mut list = [BEFORE; PLACES];
+    let n = lent(places);
+    let ours = heard(files::read(file, &mut list[0..n]));
+    let right = right(ours, must, &list, file, cells);
+    conclude(right, ours);
+    right
 }

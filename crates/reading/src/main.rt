@@ -1,19 +1,26 @@
-// Lesson files, read at once and row by row, compared with the request's numbers.
-mod bytes; // bytes.rt: the request's file, and others made of it
+// Lesson files, read at once and row by row, compared with the request's numbers. The files and what must be said of them are in `stdin`.
 mod check; // check.rt: one file through `read` and through the reader
-mod groups; // groups.rt: files that are read, and every refusal
+mod line; // line.rt: a line of the script, and the file that it stands for
 
 use show::Tally;
-use show::text;
+use show::texts;
+
+// All lines of the script.
+fn play(script: &[u8]) -> Tally {
+    let mut tally = Tally::fresh();
+    let mut next: usize = 0;
+    while next < script.len() {
+        let at = next;
+        let end = texts::find(script, at, texts::NEWLINE);
+        next = end + 1;
+        tally = line::play(tally, &script[at..end]);
+    }
+    tally
+}
 
 fn main() {
-    text(
-        b"Lesson files. Each is read into a lent list, and handed out row by row by the reader; the answer, the whole list\n",
-    );
-    text(b"and every turn of the reader are compared.\n\n");
-    let t1 = groups::files_that_are_read(Tally::fresh());
-    let t2 = groups::headers(t1);
-    let t3 = groups::bodies(t2);
-    let t4 = groups::short_lists(t3);
-    t4.conclude();
+    let mut script = io::large_buffer();
+    let n = io::read_full(0, &mut script);
+    let tally = play(&script[..n]);
+    tally.conclude();
 }

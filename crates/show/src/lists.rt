@@ -4,6 +4,16 @@ use crate::names::row;
 use crate::number;
 use crate::text;
 
+// A list from one place to another; nothing where it has no such part.
+pub fn part(list: &[u64], from: usize, to: usize) -> &[u64] {
+    if to <= list.len() {
+        if from <= to {
+            return &list[from..to];
+        }
+    }
+    &list[0..0]
+}
+
 // The rows of a view, in letters.
 pub fn rows(view: &[u64]) {
     let mut next: usize = 0;

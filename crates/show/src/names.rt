@@ -36,6 +36,13 @@ fn value(names: Names, v: usize) {
     }
 }
 
+// Words that are said only here, as those between two things of a list.
+fn text_where(here: bool, words: &[u8]) {
+    if here {
+        text(words);
+    }
+}
+
 // The names of a set's values, with commas between.
 fn values(names: Names, set: u64) {
     let mut started = false;
@@ -44,9 +51,7 @@ fn values(names: Names, set: u64) {
         let v = next;
         next += 1;
         if families::has(set, v) {
-            if started {
-                text(b", ");
-            }
+            text_where(started, b", ");
             started = true;
             value(names, v);
         }
@@ -60,24 +65,25 @@ pub fn row(names: Names, set: u64) {
     text(b"]");
 }
 
-// A family: its sets in braces, in the order of their numbers.
+// A set in braces: all of these values.
+fn braces(names: Names, set: u64) {
+    text(b"{");
+    values(names, set);
+    text(b"}");
+}
+
+// A family: its sets, in the order of their numbers.
 pub fn family(names: Names, family: u64) {
-    if family == 0 {
-        text(b"none");
-    }
+    text_where(family == 0, b"none");
     let mut started = false;
     let mut next: usize = 0;
     while next < 64 {
         let set = next;
         next += 1;
         if families::has(family, set) {
-            if started {
-                text(b" ");
-            }
+            text_where(started, b" ");
             started = true;
-            text(b"{");
-            values(names, set as u64);
-            text(b"}");
+            braces(names, set as u64);
         }
     }
 }

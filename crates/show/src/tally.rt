@@ -1,6 +1,5 @@
 // Comparisons counted.
-use crate::number;
-use crate::text;
+use crate::say;
 
 // How many agree, and how many differ.
 pub struct Tally {
@@ -39,18 +38,11 @@ impl Tally {
 
     // The last line: all agree, or how many do not.
     pub fn conclude(self) {
-        let agree = self.agree;
-        let differ = self.differ;
-        if differ == 0 {
-            text(b"\nAll ");
-            number(agree);
-            text(b" comparisons agree.\n");
+        let counts = [self.differ as u64, self.agree as u64];
+        if self.differ == 0 {
+            say(b"\nAll # comparisons agree.\n", &counts[1..]);
         } else {
-            text(b"\n");
-            number(differ);
-            text(b" comparisons DIFFER, and ");
-            number(agree);
-            text(b" agree.\n");
+            say(b"\n# comparisons DIFFER, and # agree.\n", &counts);
         }
     }
 }

@@ -27,11 +27,11 @@ pub const BEGIN: u64 = 10;
 pub const EVERY: u64 = 97;
 
 // The doors: by value, in place, and by numbers.
-const IN_PLACE: usize = 1;
+pub const BY_VALUE: usize = 0;
 
-const BY_NUMBERS: usize = 2;
+pub const IN_PLACE: usize = 1;
 
-pub const DOORS: usize = 3;
+pub const BY_NUMBERS: usize = 2;
 
 fn call(kind: u64, number: u64) -> Call {
     match kind {
@@ -75,14 +75,32 @@ fn by_reply(reply: Reply) -> Handed {
 
 // A lesson begins, at a door.
 fn begun(door: usize, table: &[u64], d: usize, desks: usize) -> Handed {
-    if door == BY_NUMBERS {
-        let handed = host::foliokettle_begin(table, d, desks);
-        let plain = handed.told;
-        let sheet = handed.sheet;
-        let told = numbers(plain.refusal, plain.first, plain.second);
-        return Handed { told, sheet };
+    if door != BY_NUMBERS {
+        return by_reply(store::begin(table, d, desks));
     }
-    by_reply(store::begin(table, d, desks))
+    let handed = host::foliokettle_begin(table, d, desks);
+    let plain = handed.told;
+    let sheet = handed.sheet;
+    let told = numbers(plain.refusal, plain.first, plain.second);
+    Handed { told, sheet }
+}
+
+fn by_numbers(table: &[u64], d: usize, sheet: Sheet, turn: Turn, list: &mut [usize]) -> Handed {
+    let handed = host::foliokettle_call(table, d, sheet, turn.desk, turn.kind, turn.number, list);
+    let plain = handed.told;
+    let sheet = handed.sheet;
+    let told = numbers(plain.refusal, plain.first, plain.second);
+    Handed { told, sheet }
+}
+
+fn in_place(table: &[u64], d: usize, sheet: Sheet, turn: Turn, list: &mut [usize]) -> Handed {
+    let call = call(turn.kind, turn.number);
+    by_reply(server::altered(sheet, table, d, turn.desk, call, list))
+}
+
+fn by_value(table: &[u64], d: usize, sheet: Sheet, turn: Turn, list: &mut [usize]) -> Handed {
+    let call = call(turn.kind, turn.number);
+    by_reply(store::desk_call(table, d, sheet, turn.desk, call, list))
 }
 
 // The turn through a door. What is no call can be said by numbers alone, so it goes through that door each time.
@@ -94,22 +112,15 @@ pub fn through(
     turn: Turn,
     list: &mut [usize],
 ) -> Handed {
-    let desk = turn.desk;
-    let kind = turn.kind;
-    let number = turn.number;
-    if kind == BEGIN {
-        return begun(door, table, d, number as usize);
+    if turn.kind == BEGIN {
+        return begun(door, table, d, turn.number as usize);
     }
-    if door == BY_NUMBERS || DISTINCT < kind {
-        let handed = host::foliokettle_call(table, d, sheet, desk, kind, number, list);
-        let plain = handed.told;
-        let sheet = handed.sheet;
-        let told = numbers(plain.refusal, plain.first, plain.second);
-        return Handed { told, sheet };
+    if DISTINCT < turn.kind {
+        return by_numbers(table, d, sheet, turn, list);
     }
-    let call = call(kind, number);
-    if door == IN_PLACE {
-        return by_reply(server::altered(sheet, table, d, desk, call, list));
+    match door {
+        BY_VALUE => by_value(table, d, sheet, turn, list),
+        IN_PLACE => in_place(table, d, sheet, turn, list),
+        _ => by_numbers(table, d, sheet, turn, list),
     }
-    by_reply(store::desk_call(table, d, sheet, desk, call, list))
 }

@@ -6,7 +6,6 @@ mod lists; // lists.rt: what a lent list holds after a call
 mod neighbour; // neighbour.rt: a neighbour who asks her questions again after every turn
 mod script; // script.rt: the lines of a script
 mod sheets; // sheets.rt: two sheets, place by place
-mod texts; // texts.rt: the next place of a byte, a line, and the numbers of a text
 mod trial; // trial.rt: one turn through every door, compared with what must be told
 mod words; // words.rt: what is told, in words
 

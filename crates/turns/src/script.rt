@@ -1,30 +1,23 @@
 // The lines of a script. A line that begins with
 //     |  has the table that is lent from here on: how many rows, d, and the rows, of which the last stands for all that follow;
-//     ?  has the neighbour's table, and the turns after it that begin with > are her questions, asked again after every turn.
+//     ?  has the neighbour's table, and the turns after it that begin with > are her questions, asked again after every turn;
+//     !  ends her questions.
 // Any other line has words to print, and where it has a bar it is a turn: after the bar come its numbers,
-//     kind desk number = refusal first second kept * times / each # places @ spot value
+//     kind desk number =refusal first second kept *times /each #places @spot value
 // What is no digit parts two numbers. One that is left out has its usual value; a sign leads on to the number that it stands before.
 // The kinds are those of include/foliokettle.h and of doors.rt. What follows the = must be told; `kept` is the set of positions that DISTINCT
 // lists. The turn is played so many times, and where `each` is not 0 the next desk comes after each so many. The lent list has so many places.
 // The sheet is one with a number changed: damage.rt has the spots.
 ghost use Prim.Native.Nat.{_<_};
 ghost use lib.ListN.{length};
-use crate::texts;
-use crate::texts::NEWLINE;
-
-pub const BAR: u8 = b'|';
+use show::texts;
+use show::texts::NEWLINE;
 
 pub const QUESTIONS: u8 = b'?';
 
 pub const QUESTION: u8 = b'>';
 
-// A line from its first byte to the next line's: what it begins with, where its words end, and the turn, which is played 0 times where there is none.
-pub struct Line {
-    pub mark: u8,
-    pub words: usize,
-    pub next: usize,
-    pub turn: Turn,
-}
+pub const NO_QUESTIONS: u8 = b'!';
 
 // What a desk is told: the refusal number or 0, the values of the answer, and the positions listed.
 pub struct Told {
@@ -56,72 +49,65 @@ pub struct Table {
     pub d: usize,
 }
 
-// The line that begins at a place of the script.
-pub fn line_at(script: &[u8], at: usize) -> Line
-    requires { ⌜ at < length (now script) ⌝ }
-    ensures { λ r. ⌜ at < r .next ⌝ }
-{
+// The line that begins at a place of the script; none where there is no such place.
+pub fn line_at(script: &[u8], at: usize) -> &[u8] {
+    if script.len() <= at {
+        return &script[0..0];
+    }
     let end = texts::find(script, at, NEWLINE);
-    let bar = texts::find(script, at, BAR);
-    let mut words = end;
-    let mut turn = read_turn(b"");
-    turn.times = 0;
-    if bar < end {
-        words = bar;
-        turn = read_turn(&script[bar..end]);
-    }
-    Line {
-        mark: script[at],
-        words,
-        next: end + 1,
-        turn,
-    }
+    &script[at..end]
 }
 
 // Where the next line begins.
-pub fn after(script: &[u8], at: usize) -> usize {
-    if at < script.len() {
-        let line = line_at(script, at);
-        return line.next;
-    }
-    at
+pub fn after(script: &[u8], at: usize) -> usize
+    requires { ⌜ at < length (now script) ⌝ }
+    ensures { λ r. ⌜ at < r ⌝ }
+{
+    texts::find(script, at, NEWLINE) + 1
 }
 
 // The turn of a text.
 pub fn read_turn(text: &[u8]) -> Turn {
-    let mut row = [0, 0, 0, 0, 0, 0, 0, 1, 0, 320, 0, 0];
+    let mut row = [0, 0, 0, 0, 0, 0, 0, 0, 1, 0, 320, 0, 0];
     texts::numbers(text, &mut row);
     let must = Told {
-        refusal: row[3],
-        first: row[4],
-        second: row[5],
-        kept: row[6],
+        refusal: row[4],
+        first: row[5],
+        second: row[6],
+        kept: row[7],
     };
     Turn {
         kind: row[0],
         desk: row[1] as usize,
         number: row[2],
         must,
-        times: row[7] as usize,
-        each: row[8] as usize,
-        places: row[9] as usize,
-        spot: row[10] as usize,
-        value: row[11],
+        times: row[8] as usize,
+        each: row[9] as usize,
+        places: row[10] as usize,
+        spot: row[11] as usize,
+        value: row[12],
     }
 }
 
-fn read_table(line: &[u8]) -> Table {
+// Row i of a table of which so many numbers are listed: the row before it where none is.
+fn row_at(listed: &[u64; 12], count: usize, i: usize, before: u64) -> u64 {
+    if i < 10 {
+        if i + 2 < count {
+            return listed[i + 2];
+        }
+    }
+    before
+}
+
+// The table of the line that begins at a place of the script.
+pub fn table_at(script: &[u8], at: usize) -> Table {
     let mut listed = [0u64; 12];
-    let count = texts::numbers(line, &mut listed);
+    let count = texts::numbers(line_at(script, at), &mut listed);
     let mut rows = [0u64; ROWS];
     let mut row: u64 = 0;
     let mut next: usize = 0;
     while next < ROWS {
-        if next < 10 {
-            if next + 2 < count {
-                row = listed[next + 2];
-            }
-        }
+        row = row_at(&listed, count, next, row);
         rows[next] = row;
         next += 1;
     }
@@ -130,13 +116,4 @@ fn read_table(line: &[u8]) -> Table {
         many: listed[0] as usize,
         d: listed[1] as usize,
     }
-}
-
-// The table of the line that begins at a place of the script.
-pub fn table_at(script: &[u8], at: usize) -> Table {
-    if script.len() <= at {
-        return read_table(b"");
-    }
-    let end = texts::find(script, at, NEWLINE);
-    read_table(&script[at..end])
 }

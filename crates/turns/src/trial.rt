@@ -2,10 +2,10 @@
 ghost use Prim.Native.Nat.{_≤_};
 use crate::damage::spoilt;
 use crate::doors;
+use crate::doors::Handed;
 use crate::lists;
 use crate::lists::LENT;
 use crate::lists::PLENTY;
-use crate::script;
 use crate::script::Told;
 use crate::script::Turn;
 use crate::sheets;
@@ -29,15 +29,6 @@ fn lent(places: usize) -> usize
     if places < PLENTY { places } else { PLENTY }
 }
 
-// The first rows of a table, where it has so many.
-fn front(rows: &[u64], many: usize) -> &[u64] {
-    if many <= rows.len() {
-        &rows[0..many]
-    } else {
-        rows
-    }
-}
-
 // How many places of the list are written.
 fn written(kind: u64, told: Told) -> u64 {
     if told.refusal == 0 && kind == doors::DISTINCT {
@@ -52,21 +43,8 @@ fn may_change(kind: u64, told: Told) -> bool {
     told.refusal == 0 && (kind < doors::LOOK || kind == doors::BEGIN)
 }
 
-// The turn through one door, with the table that stands at a place of the script.
-// It is right where the numbers are those that must be told, and the list's later places and the sheet are as they may be.
-pub fn at_door(door: usize, script: &[u8], at: usize, sheet: Sheet, turn: Turn) -> Outcome {
-    let table = script::table_at(script, at);
-    let rows = table.rows;
-    let mut list = [LENT; PLENTY];
-    let places = lent(turn.places);
-    let handed = doors::through(
-        door,
-        front(&rows, table.many),
-        table.d,
-        sheet,
-        turn,
-        &mut list[0..places],
-    );
+// What a door did is right where the numbers are those that must be told, and the list's later places and the sheet are as they may be.
+fn judged(sheet: Sheet, turn: Turn, handed: Handed, list: [usize; PLENTY]) -> Outcome {
     let after = handed.sheet;
     let mut told = handed.told;
     let listed = lists::read(list, written(turn.kind, told));
@@ -80,6 +58,14 @@ pub fn at_door(door: usize, script: &[u8], at: usize, sheet: Sheet, turn: Turn) 
     }
 }
 
+// The turn through one door.
+pub fn at_door(door: usize, table: &[u64], d: usize, sheet: Sheet, turn: Turn) -> Outcome {
+    let mut list = [LENT; PLENTY];
+    let places = lent(turn.places);
+    let handed = doors::through(door, table, d, sheet, turn, &mut list[0..places]);
+    judged(sheet, turn, handed, list)
+}
+
 // The sheet that a turn is handed. A begin is handed none: where it is refused, a sheet of zeros comes back.
 fn given(sheet: Sheet, turn: Turn) -> Sheet {
     if turn.kind == doors::BEGIN {
@@ -88,23 +74,25 @@ fn given(sheet: Sheet, turn: Turn) -> Sheet {
     spoilt(sheet, turn.spot, turn.value)
 }
 
-// The turn through every door: what came of it at one where it is not right, or else at the first.
-pub fn once(script: &[u8], at: usize, sheet: Sheet, turn: Turn) -> Outcome {
-    let before = given(sheet, turn);
-    let first = at_door(0, script, at, before, turn);
-    let after = first.sheet;
-    let mut next: usize = 1;
-    while next < doors::DOORS {
-        let other = at_door(next, script, at, before, turn);
-        next += 1;
-        let others = other.sheet;
-        if !(other.right && sheets::same(after, others)) {
-            return Outcome {
-                right: false,
-                told: other.told,
-                sheet: others,
-            };
-        }
+// What came of a turn at two doors: the first, or what is not right at the other.
+fn agreed(one: Outcome, other: Outcome) -> Outcome {
+    let sheet = one.sheet;
+    let others = other.sheet;
+    let told = other.told;
+    if other.right && sheets::same(sheet, others) {
+        return one;
     }
-    first
+    Outcome {
+        told,
+        right: false,
+        sheet: others,
+    }
+}
+
+// The turn through every door: what came of it at one where it is not right, or else at the first.
+pub fn once(table: &[u64], d: usize, sheet: Sheet, turn: Turn) -> Outcome {
+    let before = given(sheet, turn);
+    let first = at_door(doors::BY_VALUE, table, d, before, turn);
+    let second = agreed(first, at_door(doors::IN_PLACE, table, d, before, turn));
+    agreed(second, at_door(doors::BY_NUMBERS, table, d, before, turn))
 }

@@ -3,10 +3,10 @@ use crate::doors::COUNT;
 use crate::doors::DISTINCT;
 use crate::doors::LOOK;
 use crate::script::Told;
-use crate::texts;
 use show::Names;
-use show::number;
+use show::say;
 use show::text;
+use show::texts;
 
 // Why a call is refused, as one would tell it to a pupil: a line for each refusal number.
 fn reason(refusal: u64) {
@@ -30,38 +30,33 @@ fn reason(refusal: u64) {
 }
 
 // A refusal by its number, and refusal 2 with its row.
-fn say_refusal(told: Told) {
-    text(b"refused with ");
-    number(told.refusal as usize);
+fn tell_refusal(told: Told) {
+    say(b"refused with #", &[told.refusal]);
     if told.refusal == 2 {
-        text(b" at row ");
-        number(told.first as usize);
+        say(b" at row #", &[told.first]);
     }
     reason(told.refusal);
 }
 
+// How many rows DISTINCT keeps, and where.
+fn tell_kept(told: Told) {
+    say(b"# kept", &[told.first]);
+    if told.kept != 0 {
+        text(b", at");
+        show::positions(told.kept);
+    }
+}
+
 // What a call of this kind is told.
-pub fn say(kind: u64, told: Told) {
+pub fn tell(kind: u64, told: Told) {
     if told.refusal != 0 {
-        say_refusal(told);
+        tell_refusal(told);
         return;
     }
     match kind {
         LOOK => show::row(Names::Letters, told.first),
-        COUNT => {
-            number(told.first as usize);
-            text(b" rows in view, ");
-            number(told.second as usize);
-            text(b" of them own");
-        }
-        DISTINCT => {
-            number(told.first as usize);
-            text(b" kept");
-            if told.kept != 0 {
-                text(b", at");
-                show::positions(told.kept);
-            }
-        }
+        COUNT => say(b"# rows in view, # of them own", &[told.first, told.second]),
+        DISTINCT => tell_kept(told),
         _ => text(b"done"),
     }
 }

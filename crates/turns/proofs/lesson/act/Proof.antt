@@ -5,29 +5,10 @@ use Rattle.turns.proofs.lesson.act.Statement.{statement}
 use Rattle.turns.proofs.lesson.act.Tie as tie
 
 abbrev Inv-loop : tie.InvT-loop
-Inv-loop script table questions turn sheet₀ told₀ looks₀ asked₀ next₀ sheet told looks asked next =
-    next ≤ turn .times
+Inv-loop script turn class₀ next₀ class next = next ≤ turn .times
 
 abbrev μ-loop : tie.MeasureT-loop
-μ-loop script table questions turn sheet₀ told₀ looks₀ asked₀ next₀ sheet told looks asked next =
-    turn .times - next
+μ-loop script turn class₀ next₀ class next = turn .times - next
 
 pub act-spec : {M : Type 1} → statement M
-act-spec =
-    tie.close
-    (tie.spec
-    Inv-loop
-    μ-loop
-    (λ c κs. search needs)
-    (λ c. search needs)
-    (λ c κs. search needs)
-    (λ c. search needs)
-    (λ c κs. search needs)
-    (λ c κs. search needs)
-    (λ c κs. search needs)
-    (λ c κs. search needs)
-    (λ c κs. search needs)
-    (λ c. search needs)
-    (λ c. search needs)
-    (λ c κs. search needs)
-    (λ c. search needs))
+act-spec = tie.close (tie.spec Inv-loop μ-loop (λ c. search needs) (λ c κs. search needs) (λ c. search needs) (λ c κs. search needs) (λ c κs. search needs) (λ c. search needs) (λ c. search needs) (λ c. search needs))

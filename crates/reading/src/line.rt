@@ -1,0 +1,78 @@
+// A line of the script has words to print. Where it has a bar, it stands for a file: after the bar come its numbers,
+//     place byte place byte =refusal row d rows /length #places @cells
+// The file is the request's with these bytes changed, cut to a length. The answer is what follows the =, the lent list has so many places, and
+// the reader hands out the cells, which a file that is read also puts into the list.
+use crate::check;
+use crate::check::Said;
+use show::Tally;
+use show::text;
+use show::texts;
+
+// As long as a file of 257 rows with all their bytes.
+const LONGEST: usize = 2064;
+
+// The cells of a line begin at this column.
+const CELLS: usize = 11;
+
+fn change(file: &mut [u8; LONGEST], place: u64, byte: u64) {
+    if place < 2064 {
+        file[place as usize] = (byte % 256) as u8;
+    }
+}
+
+// The request's file, 50 56 54 00 01 04 00 03 and rows 3, 0 and 4 in 8 bytes each, and zeros behind it.
+fn request() -> [u8; LONGEST] {
+    let mut file = [0u8; LONGEST];
+    file[0] = 0x50;
+    file[1] = 0x56;
+    file[2] = 0x54;
+    file[4] = 1;
+    file[5] = 4;
+    file[7] = 3;
+    file[15] = 3;
+    file[31] = 4;
+    file
+}
+
+// The first bytes of a file, where it has so many.
+fn front(file: &[u8; LONGEST], length: usize) -> &[u8] {
+    let whole = &file[..];
+    if length <= whole.len() {
+        &whole[0..length]
+    } else {
+        whole
+    }
+}
+
+// The file of the numbers. Where they say nothing else, it is the request's with a byte as it is, whole, and the list has a place for every row.
+fn trial(text: &[u8]) -> bool {
+    let mut row = [0, 80, 0, 80, 0, 0, 0, 0, 0, 32, 300, 0, 0, 0, 0];
+    let filled = texts::numbers(text, &mut row);
+    let mut file = request();
+    change(&mut file, row[0], row[1]);
+    change(&mut file, row[2], row[3]);
+    let must = Said {
+        refusal: row[4],
+        row: row[5],
+        d: row[6],
+        rows: row[7],
+    };
+    let length = row[9] as usize;
+    let places = row[10] as usize;
+    check::check(
+        front(&file, length),
+        places,
+        must,
+        show::part(&row, CELLS, filled),
+    )
+}
+
+pub fn play(tally: Tally, line: &[u8]) -> Tally {
+    let bar = texts::find(line, 0, texts::BAR);
+    text(&line[0..bar]);
+    if bar == line.len() {
+        text(b"\n");
+        return tally;
+    }
+    tally.count(trial(&line[bar..]))
+}
