@@ -3,7 +3,7 @@ use crate::rule::kept;
 use distinct::Answer;
 use families::has;
 use show::Tally;
-use show::number;
+use show::say;
 use show::text;
 
 // How many places are lent: more than any view here has rows, so that some must stay as they were.
@@ -40,22 +40,20 @@ fn expected(marks: u64) -> [usize; PLACES] {
 }
 
 // Both lists hold the same in every place.
-fn same(a: &[usize], b: &[usize]) -> bool {
+fn same(a: &[usize; PLACES], b: &[usize; PLACES]) -> bool {
     let mut next: usize = 0;
-    while next < a.len() {
+    while next < PLACES {
         let i = next;
         next += 1;
-        if i < b.len() {
-            if a[i] != b[i] {
-                return false;
-            }
+        if a[i] != b[i] {
+            return false;
         }
     }
-    a.len() == b.len()
+    true
 }
 
 // The answer is the rule's, to the last place of the list; no sublist with the view's family is shorter; and the rows listed have that family.
-fn agrees(view: &[u64], n: usize, list: &[usize]) -> bool {
+fn agrees(view: &[u64], n: usize, list: &[usize; PLACES]) -> bool {
     let rule = kept(view);
     if n != families::size(rule) {
         return false;
@@ -71,34 +69,33 @@ fn agrees(view: &[u64], n: usize, list: &[usize]) -> bool {
 }
 
 // A view on which the two differ: its rows and both answers.
-fn show_difference(view: &[u64], n: usize, list: &[usize]) {
+fn show_difference(view: &[u64], n: usize, list: &[usize; PLACES]) {
     let rule = kept(view);
     let wanted = expected(rule);
     text(b"DIFFERENT on");
     show::rows(view);
-    text(b"\n  the store answers ");
-    number(n);
-    text(b", and its list is");
+    say(b"\n  the store answers #, and its list is", &[n as u64]);
     show::numbers(list);
-    text(b"\n  by definition it is ");
-    number(families::size(rule));
-    text(b", and the list");
+    say(
+        b"\n  by definition it is #, and the list",
+        &[families::size(rule) as u64],
+    );
     show::numbers(&wanted);
-    text(b"\n  the fewest rows that will do are ");
-    number(families::fewest(view));
-    text(b"\n");
+    say(
+        b"\n  the fewest rows that will do are #\n",
+        &[families::fewest(view) as u64],
+    );
 }
 
 // Compares on one view. The first few on which the two differ are shown.
 pub fn compare(tally: Tally, d: usize, view: &[u64]) -> Tally {
     let mut list = [LENT; PLACES];
     let n = answered(distinct::ask(d, view, &mut list));
-    let same = agrees(view, n, &list);
-    let shown = tally.differ;
-    if !same {
-        if shown < SHOWN {
-            show_difference(view, n, &list);
-        }
+    if agrees(view, n, &list) {
+        return tally.count(true);
     }
-    tally.count(same)
+    if tally.differ < SHOWN {
+        show_difference(view, n, &list);
+    }
+    tally.count(false)
 }

@@ -6,90 +6,67 @@ mod views; // views.rt: the views to compare on
 
 use compare::compare;
 use show::Tally;
-use show::number;
+use show::say;
 use show::text;
-ghost use Prim.Native.Nat.{_≤_};
 
-// All views of n rows over d values: the first index that has more than n digits ends them. There are at most 7 to the power 4.
-fn views_of(start: Tally, d: usize, n: usize) -> Tally
-    requires { ⌜ n ≤ 7 ⌝ }
-{
-    let kinds = views::row_kinds(d);
+// One view by its number, of at most so many rows.
+fn trial(tally: Tally, number: u64, d: usize, most: usize) -> Tally {
+    let view = views::spelt(number, d, most);
+    let row = view.row;
+    compare(tally, d, show::part(&row, 0, view.rows))
+}
+
+// The first views over d values.
+fn views_over(start: Tally, d: usize, many: u64) -> Tally {
     let mut tally = start;
-    let mut next: u64 = 0;
-    while next < 2401 {
-        let index = next;
-        next += 1;
-        let mut rows = [0u64; 7];
-        let view = &mut rows[..n];
-        if views::spell(index, kinds, view) != 0 {
-            return tally;
-        }
-        tally = compare(tally, d, view);
+    let mut number: u64 = 0;
+    while number < many {
+        tally = trial(tally, number, d, 4);
+        number += 1;
     }
     tally
 }
 
-// All views of 0 to 4 rows over d values.
-fn views_over(start: Tally, d: usize) -> Tally {
-    let mut tally = start;
-    let mut n: usize = 0;
-    while n < 5 {
-        tally = views_of(tally, d, n);
-        n += 1;
-    }
-    tally
-}
-
-// All views of 0 to 4 rows over 1 to 3 values.
+// All views of 0 to 4 rows over 1 to 3 values: with k kinds of rows there are 1 + k + k^2 + k^3 + k^4.
 fn every_view() -> Tally {
-    views_over(views_over(views_over(Tally::fresh(), 1), 2), 3)
+    let one = views_over(Tally::fresh(), 1, 5);
+    let two = views_over(one, 2, 121);
+    views_over(two, 3, 2801)
 }
 
 // 4,000 drawn views of 0 to 7 rows over 1 to 5 values.
 fn drawn_views() -> Tally {
     let mut tally = Tally::fresh();
-    let mut state: u64 = 20_240_229;
+    let mut number: u64 = 20_240_229;
     let mut turn: usize = 0;
     while turn < 4000 {
         turn += 1;
-        let shape = views::stir(state);
+        let shape = views::stir(number);
+        number = views::stir(shape);
         let d = 1 + (shape / 256 % 5) as usize;
-        let n = (shape / 65536 % 8) as usize;
-        let mut rows = [0u64; 7];
-        let view = &mut rows[..n];
-        state = views::draw(shape, views::row_kinds(d), view);
-        tally = compare(tally, d, view);
+        let most = (shape / 65536 % 8) as usize;
+        tally = trial(tally, number, d, most);
     }
     tally
 }
 
-// One line on what was compared, and how it went.
-fn report(views: &[u8], tally: Tally) {
-    text(views);
-    number(tally.agree);
-    text(b" agree, ");
-    number(tally.differ);
-    text(b" differ.\n");
+// One line on how it went.
+fn report(tally: Tally) {
+    say(
+        b"# agree, # differ.\n",
+        &[tally.agree as u64, tally.differ as u64],
+    );
 }
 
 fn main() {
     text(
-        b"DISTINCT against a second one, written from the definitions. On each view are compared\n",
+        b"DISTINCT against a second one, written from the definitions. On each view are compared
+- the positions in the list, with those that the rule gives by definition, and its later places, with what stood there;
+- the number of rows kept, with the shortest of all sublists that have the view's family;
+- the family of the rows kept, with the view's.
+All views of 0 to 4 rows over 1 to 3 values: ",
     );
-    text(
-        b"- the positions in the list, with those that the rule gives by definition, and its later places, with what stood there;\n",
-    );
-    text(
-        b"- the number of rows kept, with the shortest of all sublists that have the view's family;\n",
-    );
-    text(b"- the family of the rows kept, with the view's.\n");
-    report(
-        b"All views of 0 to 4 rows over 1 to 3 values: ",
-        every_view(),
-    );
-    report(
-        b"Drawn views of 0 to 7 rows over 1 to 5 values: ",
-        drawn_views(),
-    );
+    report(every_view());
+    text(b"Drawn views of 0 to 7 rows over 1 to 5 values: ");
+    report(drawn_views());
 }

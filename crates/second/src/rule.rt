@@ -3,29 +3,15 @@ use crate::rank::rank;
 use families::has;
 use families::with;
 
-// No row of the view is a proper subset of this one.
-fn minimal(view: &[u64], row: u64) -> bool {
+// Row i is minimal and the first of those equal to it: no row of the view is a proper subset of it, and no earlier one is the same.
+fn first_minimal(view: &[u64], i: usize, row: u64) -> bool {
     let mut next: usize = 0;
     while next < view.len() {
-        let other = view[next];
+        let at = next;
         next += 1;
+        let other = view[at];
         if other & row == other {
-            if other != row {
-                return false;
-            }
-        }
-    }
-    true
-}
-
-// Row i is the first of those equal to it.
-fn first(view: &[u64], i: usize, row: u64) -> bool {
-    let mut next: usize = 0;
-    while next < view.len() {
-        let earlier = next;
-        next += 1;
-        if earlier < i {
-            if view[earlier] == row {
+            if other != row || at < i {
                 return false;
             }
         }
@@ -34,20 +20,25 @@ fn first(view: &[u64], i: usize, row: u64) -> bool {
 }
 
 // Step 1: of equal minimal rows the first.
-fn first_minimal(view: &[u64]) -> u64 {
+fn minimal(view: &[u64]) -> u64 {
     let mut kept: u64 = 0;
     let mut next: usize = 0;
     while next < view.len() {
         let i = next;
         next += 1;
-        let row = view[i];
-        if minimal(view, row) {
-            if first(view, i, row) {
-                kept = with(kept, i);
-            }
+        if first_minimal(view, i, view[i]) {
+            kept = with(kept, i);
         }
     }
     kept
+}
+
+// Row i is not kept yet, and raises the rank of the rows kept so far.
+fn raises(view: &[u64], kept: u64, i: usize) -> bool {
+    if has(kept, i) {
+        return false;
+    }
+    rank(view, kept) < rank(view, with(kept, i))
 }
 
 // Step 2: the others in view order, where one raises the rank of the rows kept so far.
@@ -57,10 +48,8 @@ fn raising(view: &[u64], start: u64) -> u64 {
     while next < view.len() {
         let i = next;
         next += 1;
-        if !has(kept, i) {
-            if rank(view, kept) < rank(view, with(kept, i)) {
-                kept = with(kept, i);
-            }
+        if raises(view, kept, i) {
+            kept = with(kept, i);
         }
     }
     kept
@@ -68,5 +57,5 @@ fn raising(view: &[u64], start: u64) -> u64 {
 
 // The marks of the rows that DISTINCT is to keep.
 pub fn kept(view: &[u64]) -> u64 {
-    raising(view, first_minimal(view))
+    raising(view, minimal(view))
 }

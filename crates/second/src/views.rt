@@ -1,8 +1,17 @@
-// Small views to compare on: all of one shape by number, and drawn ones.
+// Small views to compare on, by number.
 ghost use Prim.Native.Nat.{_<_};
 
+// The longest view.
+pub const MOST: usize = 7;
+
+// A view: its first `rows` rows.
+pub struct View {
+    pub row: [u64; MOST],
+    pub rows: usize,
+}
+
 // How many rows a column of d values can have, for d from 1 to 5: the non-empty sets.
-pub fn row_kinds(d: usize) -> u64
+fn row_kinds(d: usize) -> u64
     ensures { λ r. ⌜ 0 < r ⌝ }
 {
     match d {
@@ -21,19 +30,22 @@ fn row_of(number: u64, kinds: u64) -> u64
     1 + number % kinds
 }
 
-// Fills the view with the digits of the index, written with `kinds` digits, each a row. What is left of the index is 0 where it had no more digits.
-pub fn spell(index: u64, kinds: u64, view: &mut [u64]) -> u64
-    requires { ⌜ 0 < kinds ⌝ }
-{
-    let mut rest = index;
+// The view of a number: its digits are the rows, written with as many digits as there are kinds of rows and with no zero, so that each number has
+// its own view, the longer ones after all shorter ones. Where it has more digits, the first `most` are taken.
+pub fn spelt(number: u64, d: usize, most: usize) -> View {
+    let kinds = row_kinds(d);
+    let mut row = [0u64; MOST];
+    let mut left = number;
     let mut next: usize = 0;
-    while next < view.len() {
-        let i = next;
+    while next < MOST {
+        if left == 0 || most <= next {
+            return View { row, rows: next };
+        }
+        row[next] = row_of(left - 1, kinds);
+        left = (left - 1) / kinds;
         next += 1;
-        view[i] = row_of(rest, kinds);
-        rest = rest / kinds;
     }
-    rest
+    View { row, rows: next }
 }
 
 // The next number of a fixed sequence that looks random: Marsaglia's xorshift with 13, 7 and 17.
@@ -41,19 +53,4 @@ pub fn stir(state: u64) -> u64 {
     let a = state ^ (state << 13);
     let b = a ^ (a >> 7);
     b ^ (b << 17)
-}
-
-// Fills the view with drawn rows, and answers where the sequence stands then.
-pub fn draw(state: u64, kinds: u64, view: &mut [u64]) -> u64
-    requires { ⌜ 0 < kinds ⌝ }
-{
-    let mut now = state;
-    let mut next: usize = 0;
-    while next < view.len() {
-        let i = next;
-        next += 1;
-        now = stir(now);
-        view[i] = row_of(now, kinds);
-    }
-    now
 }
