@@ -5,39 +5,35 @@
 use show::Tally;
 use show::say;
 
-// Whether Max was always told what he should be.
-fn end_of_max(told: Tally) {
+// Whether Max was always told what he should be, and whether Lena ever saw a change.
+fn end(told: Tally, looks: Tally) {
+    if told.differ == 0 && looks.differ == 0 {
+        say(
+            b"
+Max and the others were told # times what they should be told, and never anything else.
+Lena looked # times, and nothing had changed. She thinks that Max was ill today.
+",
+            &[told.agree as u64, looks.agree as u64],
+        );
+        return;
+    }
     say(
-        b"\nMax and the others were told # times what they should be told",
-        &[told.agree as u64],
+        b"
+Max and the others were told # times what they should be told, AND # TIMES SOMETHING ELSE.
+Lena looked # times in peace, AND # TIMES SOMETHING HAD CHANGED.
+",
+        &[
+            told.agree as u64,
+            told.differ as u64,
+            looks.agree as u64,
+            looks.differ as u64,
+        ],
     );
-    if told.differ == 0 {
-        say(b", and never anything else.\n", &[]);
-    } else {
-        say(b", AND # TIMES SOMETHING ELSE.\n", &[told.differ as u64]);
-    }
-}
-
-// Whether Lena ever saw a change.
-fn end_of_lena(looks: Tally) {
-    say(b"Lena looked # times", &[looks.agree as u64]);
-    if looks.differ == 0 {
-        say(
-            b", and nothing had changed. She thinks that Max was ill today.\n",
-            &[],
-        );
-    } else {
-        say(
-            b" in peace, AND # TIMES SOMETHING HAD CHANGED.\n",
-            &[looks.differ as u64],
-        );
-    }
 }
 
 fn main() {
     let score = turns::play();
     let told = score.told;
     let looks = score.looks;
-    end_of_max(told);
-    end_of_lena(looks);
+    end(told, looks);
 }

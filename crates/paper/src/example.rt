@@ -1,7 +1,7 @@
 // One example: its rows, those that DISTINCT keeps, and the families of both.
 use crate::compare::FAMILY;
-use crate::compare::NUMBER;
 use crate::compare::compare;
+use crate::compare::same_number;
 use crate::rows::show_rows;
 use distinct::Answer;
 use families::EVERY;
@@ -71,12 +71,9 @@ fn same_family(names: Names, view: &[u64], kept: u64) -> bool {
 }
 
 // No fewer rows would do.
-fn fewest(names: Names, view: &[u64], kept: u64) -> bool {
-    text(b"  fewest rows that have it: ");
-    compare(
-        NUMBER,
-        names,
-        view,
+fn fewest(view: &[u64], kept: u64) -> bool {
+    same_number(
+        b"  fewest rows that have it: ",
         families::size(kept) as u64,
         families::fewest(view) as u64,
     )
@@ -86,7 +83,7 @@ fn fewest(names: Names, view: &[u64], kept: u64) -> bool {
 fn shown(before: Tally, names: Names, view: &[u64], kept: u64) -> Tally {
     show_view(names, view, kept);
     let alike = before.count(same_family(names, view, kept));
-    alike.count(fewest(names, view, kept))
+    alike.count(fewest(view, kept))
 }
 
 // The example of a line's numbers.

@@ -1,10 +1,7 @@
 // The request's two large views, too many choices to list: what is kept is compared with the request alone.
-use crate::compare::NUMBER;
-use crate::compare::compare;
+use crate::compare::same_number;
 use distinct::Answer;
-use show::Names;
 use show::Tally;
-use show::text;
 
 // How many positions were answered; a refusal counts as none.
 fn answered(answer: Answer) -> usize {
@@ -33,8 +30,10 @@ pub fn keeps_first(tally: Tally, d: usize, many: usize, row: u64, wanted: u64) -
     // 999 is no position here, so that a place which was not written ends the order.
     let mut list = [999usize; 320];
     let n = answered(distinct::ask(d, show::part(&view, 0, many), &mut list));
-    text(b"\n  rows kept:                ");
-    let counted = tally.count(compare(NUMBER, Names::Letters, &[], n as u64, wanted));
-    text(b"  in order from position 0: ");
-    counted.count(compare(NUMBER, Names::Letters, &[], in_order(&list) as u64, wanted))
+    let counted = tally.count(same_number(b"\n  rows kept:                ", n as u64, wanted));
+    counted.count(same_number(
+        b"  in order from position 0: ",
+        in_order(&list) as u64,
+        wanted,
+    ))
 }

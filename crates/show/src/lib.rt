@@ -1,6 +1,5 @@
 // What the programs that compare share: words and numbers on standard output, sets by the names of their values, the lines of a script, and a
 // count of comparisons.
-pub mod letters; // letters.rt: the values a to e
 mod lists; // lists.rt: rows and numbers in a line
 mod names; // names.rt: rows and families in letters or salaries
 mod tally; // tally.rt: how many comparisons agree and differ
@@ -21,7 +20,7 @@ pub fn text(words: &[u8]) {
 }
 
 // A number in decimal.
-pub fn number(n: usize) {
+fn number(n: usize) {
     io::print_decimal(1, n as u64);
 }
 

@@ -1,6 +1,6 @@
 // Rows and families by the names of their values.
-use crate::number;
 use crate::text;
+use crate::texts::say_line;
 
 // What the values of a column are called: a, b, c and so on, or the salaries of the paper's introduction.
 pub enum Names {
@@ -8,31 +8,15 @@ pub enum Names {
     Salaries,
 }
 
-// A value as a letter; those after z by number.
-fn letter(v: usize) {
-    if v < 26 {
-        let one = [97 + v as u8];
-        text(&one);
-    } else {
-        number(v);
-    }
-}
-
-// A value as a salary.
-fn salary(v: usize) {
-    match v {
-        0 => text(b"20k"),
-        1 => text(b"30k"),
-        2 => text(b"35k"),
-        _ => number(v),
-    }
-}
-
-// A value by its name.
-fn value(names: Names, v: usize) {
+// A value by its name; those after the last by number.
+fn value(names: Names, v: u64) {
     match names {
-        Names::Letters => letter(v),
-        Names::Salaries => salary(v),
+        Names::Letters => say_line(
+            b"a\nb\nc\nd\ne\nf\ng\nh\ni\nj\nk\nl\nm\nn\no\np\nq\nr\ns\nt\nu\nv\nw\nx\ny\nz\n#",
+            v,
+            &[v],
+        ),
+        Names::Salaries => say_line(b"20k\n30k\n35k\n#", v, &[v]),
     }
 }
 
@@ -53,7 +37,7 @@ fn values(names: Names, set: u64) {
         if families::has(set, v) {
             text_where(started, b", ");
             started = true;
-            value(names, v);
+            value(names, v as u64);
         }
     }
 }

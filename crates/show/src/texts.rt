@@ -22,20 +22,21 @@ pub fn find(text: &[u8], from: usize, byte: u8) -> usize
     at
 }
 
-// Prints one line of a text, counted from 0; nothing where there is none.
-pub fn print_line(text: &[u8], line: u64) {
+// Says one of some lines, counted from 0, with the numbers that it has; the last where there are not so many.
+pub fn say_line(lines: &[u8], line: u64, numbers: &[u64]) {
     let mut at: usize = 0;
     let mut left = line;
     while 0 < left {
-        let end = find(text, at, NEWLINE);
-        if end == text.len() {
+        let end = find(lines, at, NEWLINE);
+        if end == lines.len() {
+            crate::say(&lines[at..], numbers);
             return;
         }
         at = end + 1;
         left -= 1;
     }
-    let end = find(text, at, NEWLINE);
-    crate::text(&text[at..end]);
+    let end = find(lines, at, NEWLINE);
+    crate::say(&lines[at..end], numbers);
 }
 
 // A number with one digit more. What would be too large is the largest number.

@@ -33,6 +33,9 @@ pub const IN_PLACE: usize = 1;
 
 pub const BY_NUMBERS: usize = 2;
 
+// The way of a turn that begins a lesson.
+const BEGUN: usize = 3;
+
 fn call(kind: u64, number: u64) -> Call {
     match kind {
         0 => Call::Do(Change::Delete(Target::Table(number as usize))),
@@ -103,7 +106,15 @@ fn by_value(table: &[u64], d: usize, sheet: Sheet, turn: Turn, list: &mut [usize
     by_reply(store::desk_call(table, d, sheet, turn.desk, call, list))
 }
 
-// The turn through a door. What is no call can be said by numbers alone, so it goes through that door each time.
+// The way of a turn at a door. What is no call can be said by numbers alone, so it goes through that door each time.
+fn way(door: usize, kind: u64) -> usize {
+    if kind == BEGIN {
+        return BEGUN;
+    }
+    if DISTINCT < kind { BY_NUMBERS } else { door }
+}
+
+// The turn through a door.
 pub fn through(
     door: usize,
     table: &[u64],
@@ -112,15 +123,11 @@ pub fn through(
     turn: Turn,
     list: &mut [usize],
 ) -> Handed {
-    if turn.kind == BEGIN {
-        return begun(door, table, d, turn.number as usize);
-    }
-    if DISTINCT < turn.kind {
-        return by_numbers(table, d, sheet, turn, list);
-    }
-    match door {
+    let way = way(door, turn.kind);
+    match way {
         BY_VALUE => by_value(table, d, sheet, turn, list),
         IN_PLACE => in_place(table, d, sheet, turn, list),
+        BEGUN => begun(door, table, d, turn.number as usize),
         _ => by_numbers(table, d, sheet, turn, list),
     }
 }

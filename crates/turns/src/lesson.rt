@@ -121,14 +121,12 @@ fn read_out(class: Class, script: &[u8], line: &[u8]) -> Class {
     let bar = texts::find(line, 0, BAR);
     text(&line[0..bar]);
     if bar == line.len() {
-        text(b"\n");
         return class;
     }
     let turn = script::read_turn(&line[bar..]);
     announce(turn);
     let after = act(class, script, turn);
     hear(after, script);
-    text(b"\n");
     after
 }
 
@@ -143,7 +141,10 @@ fn line_at(class: Class, script: &[u8], at: usize) -> Class
         QUESTIONS => next.questions = at,
         NO_QUESTIONS => next.questions = script.len(),
         QUESTION => {}
-        _ => next = read_out(class, script, script::line_at(script, at)),
+        _ => {
+            next = read_out(class, script, script::line_at(script, at));
+            text(b"\n");
+        }
     }
     next
 }

@@ -39,11 +39,12 @@ pub fn says(looks: Tally) {
         text(b" LENA'S ROWS HAVE CHANGED.");
         return;
     }
-    texts::print_line(
+    texts::say_line(
         b" Lena: no change.
  Lena: all there.
  Lena: as before.
  Lena: the same rows.",
         (looks.agree % 4) as u64,
+        &[],
     );
 }

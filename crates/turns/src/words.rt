@@ -8,34 +8,27 @@ use show::say;
 use show::text;
 use show::texts;
 
-// Why a call is refused, as one would tell it to a pupil: a line for each refusal number.
-fn reason(refusal: u64) {
-    texts::print_line(
-        b"
- (no table has that size)
- (that is no row)
- (scribbles)
- (that is not today's table)
- (nobody sits there)
- (there is no such row)
- (it is hidden already)
- (that is no set of this column)
- (64 rows are enough for anybody)
- (every free place is promised)
- (the list is too short)
- (nobody sees that much)
- (a class has 1 to 32 desks)",
-        refusal,
-    );
-}
-
-// A refusal by its number, and refusal 2 with its row.
+// A refusal by its number, refusal 2 with its row, and why, as one would tell it to a pupil.
 fn tell_refusal(told: Told) {
-    say(b"refused with #", &[told.refusal]);
-    if told.refusal == 2 {
-        say(b" at row #", &[told.first]);
-    }
-    reason(told.refusal);
+    texts::say_line(
+        b"done
+refused with # (no table has that size)
+refused with # at row # (that is no row)
+refused with # (scribbles)
+refused with # (that is not today's table)
+refused with # (nobody sits there)
+refused with # (there is no such row)
+refused with # (it is hidden already)
+refused with # (that is no set of this column)
+refused with # (64 rows are enough for anybody)
+refused with # (every free place is promised)
+refused with # (the list is too short)
+refused with # (nobody sees that much)
+refused with # (a class has 1 to 32 desks)
+refused with #",
+        told.refusal,
+        &[told.refusal, told.first],
+    );
 }
 
 // How many rows DISTINCT keeps, and where.
