@@ -11,4 +11,9 @@ abbrev μ-loop : tie.MeasureT-loop
 μ-loop view whole end least₀ next₀ least next = end - next
 
 pub fewest-spec : {M : Type 1} → statement M
-fewest-spec = tie.close (tie.spec Inv-loop μ-loop (λ c κs. search needs) (λ c κs. search needs) (λ c. search needs) (λ c. search needs) (λ c κs. search needs) (λ c κs. search needs) (λ c κs. search needs) (λ c. search needs) (λ c. search needs) (λ c. search needs) (λ c. search needs) (λ c. search needs) (λ c. search needs) (λ c. search needs))
+fewest-spec =
+    tie.close
+    (tie.spec Inv-loop μ-loop (λ c κs. search needs) (λ c κs. search needs) (λ c. search needs)
+    (λ c. search needs) (λ c κs. search needs) (λ c κs. search needs) (λ c κs. search needs)
+    (λ c. search needs) (λ c. search needs) (λ c. search needs) (λ c. search needs)
+    (λ c. search needs) (λ c. search needs) (λ c. search needs))

@@ -12,4 +12,8 @@ abbrev μ-loop : tie.MeasureT-loop
 μ-loop view start kept₀ next₀ kept next = length view - next
 
 pub raising-spec : {M : Type 1} → statement M
-raising-spec = tie.close (tie.spec Inv-loop μ-loop (λ c. search needs) (λ c. search needs) (λ c κs. search needs) (λ c κs. search needs) (λ c. search needs) (λ c. search needs) (λ c. search needs) (λ c. search needs) (λ c. search needs))
+raising-spec =
+    tie.close
+    (tie.spec Inv-loop μ-loop (λ c. search needs) (λ c. search needs) (λ c κs. search needs)
+    (λ c κs. search needs) (λ c. search needs) (λ c. search needs) (λ c. search needs)
+    (λ c. search needs) (λ c. search needs))

@@ -11,4 +11,8 @@ abbrev μ-loop : tie.MeasureT-loop
 μ-loop script turn class₀ next₀ class next = turn .times - next
 
 pub act-spec : {M : Type 1} → statement M
-act-spec = tie.close (tie.spec Inv-loop μ-loop (λ c. search needs) (λ c κs. search needs) (λ c. search needs) (λ c κs. search needs) (λ c κs. search needs) (λ c. search needs) (λ c. search needs) (λ c. search needs))
+act-spec =
+    tie.close
+    (tie.spec Inv-loop μ-loop (λ c. search needs) (λ c κs. search needs) (λ c. search needs)
+    (λ c κs. search needs) (λ c κs. search needs) (λ c. search needs) (λ c. search needs)
+    (λ c. search needs))
