@@ -3,6 +3,7 @@ use Prim.Native.Nat.{ℕ}
 use mathlib.Core.Path.{sym, ap, _∙_}
 use mathlib.Core.List.{List}
 use denote.Ref.{now}
+use Rattle.sets.specs.Rows.{rowsOf}
 use Rattle.walks.proofs.Public.{Public}
 use Rattle.distinct.specs.declared.Answer.{Answer}
 use Rattle.distinct.specs.Asked.{listed}
@@ -14,6 +15,6 @@ ask-determined = record {
   asks-nothing = λ κs a. tt;
   determined = λ κs a r r′ e e′ p q.
       let same = p .0 ∙ sym (q .0) in
-      let lists = p .1 ∙ ap (listed (a .0) (now (a .1 .0)) (now (a .1 .1 .0))) same ∙ sym (q .1) in
+      let lists = p .1 ∙ ap (listed (a .0) (rowsOf (now (a .1 .0))) (now (a .1 .1 .0))) same ∙ sym (q .1) in
       λ i. (same i, lists i);
 }

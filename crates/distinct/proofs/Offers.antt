@@ -8,7 +8,7 @@ use native.Mathlib.Nat.{le-refl}
 use native.Mathlib.Omega.{arith}
 use lib.ListN.{length, set}
 use lib.Seq.{set-getD}
-use Rattle.sets.specs.Limits.{mostValues}
+use Rattle.sets.specs.Rows.{width}
 use Rattle.sets.proofs.Bools.{true-or-false, is-false}
 use Rattle.theory.specs.Pairings.{at}
 use Rattle.theory.specs.Kept.{marked, tries}
@@ -45,7 +45,7 @@ pub offering-start : (b : Bool) {view : List ℕ} {ms : List Bool} {s : Seats} {
     → Pairs view (offered b zero ms) s rows columns mates → Offering b view ms ms zero s rows columns mates
 unfolding marksThen
 offering-start true P = record { bound = omega arith; pairs = P; marks = refl }
-offering-start false {view} {ms} P = record { bound = omega arith; pairs = P; marks = tries-none mostValues view zero ms }
+offering-start false {view} {ms} P = record { bound = omega arith; pairs = P; marks = tries-none width view zero ms }
 
 -- there are as many marks as rows
 pub offering-long : (b : Bool) {view : List ℕ} {ms₀ ms : List Bool} {n : ℕ} {s : Seats} {rows columns mates : List ℕ}
@@ -61,7 +61,7 @@ unfolding offered marksThen
 offering-end true {view} {ms₀} {ms} {n} {s} {rows} {columns} {mates} O h =
     (O .marks, subst (λ (l : List Bool). Pairs view l s rows columns mates) (before-all n ms (omega (arith, offering-long true O))) (O .pairs))
 offering-end false {view} {ms₀} {n = n} O h =
-    let all : n ≡ length view = omega (arith, O .bound) in (O .marks ∙ ap (λ (k : ℕ). tries mostValues view k zero ms₀) all, O .pairs)
+    let all : n ≡ length view = omega (arith, O .bound) in (O .marks ∙ ap (λ (k : ℕ). tries width view k zero ms₀) all, O .pairs)
 
 module _ {view : List ℕ} {ms₀ ms : List Bool} {n : ℕ} {s : Seats} {rows columns mates : List ℕ} (h : n < length view) where
   -- row n has the other mark
@@ -76,7 +76,7 @@ module _ {view : List ℕ} {ms₀ ms : List Bool} {n : ℕ} {s : Seats} {rows co
   offering-other false O other = record {
     bound = omega arith;
     pairs = O .pairs;
-    marks = tried-more view ms₀ ms n ms (O .marks) (try-marked mostValues view ms n there);
+    marks = tried-more view ms₀ ms n ms (O .marks) (try-marked width view ms n there);
   }
     where
       there : marked ms n ≡ true
@@ -122,7 +122,7 @@ turn-over false e (m, P) = absurd (false≢true e)
 
 -- and then they have been
 pub turns-done : (b : Bool) (view : List ℕ) (ms : List Bool) {ms′ : List Bool} → b ≡ false → ms′ ≡ marksThen b view (length view) ms
-    → ms′ ≡ tries mostValues view (length view) zero ms
+    → ms′ ≡ tries width view (length view) zero ms
 unfolding marksThen
 turns-done true view ms e m = absurd (true≢false e)
 turns-done false view ms e m = m

@@ -8,7 +8,7 @@ use native.Mathlib.Nat.{zero-add}
 use native.Mathlib.Numerals.{add-one}
 use native.Mathlib.Omega.{arith}
 use lib.ListN.{length, set, take, length-map, length-append}
-use Rattle.sets.specs.Limits.{mostValues}
+use Rattle.sets.specs.Rows.{width}
 use Rattle.theory.specs.Pairings.{size, at, Pairing}
 use Rattle.theory.specs.Kept.{marked, try, tries, rowsAt}
 use Rattle.theory.proofs.NextRow.{tries-next}
@@ -39,8 +39,8 @@ module _ {view : List ℕ} {ms : List Bool} {s : Seats} {rows columns mates : Li
     listed′ : take (s′ .used) rows′ ≡ rowsAt view (is ++ i ∷ [])
     listed′ = T .rows-more ∙ ap (λ (l : List ℕ). l ++ at view i ∷ []) (G .listed) ∙ sym (rows-snoc view is i)
 
-    pairing′ : Pairing mostValues (rowsAt view (is ++ i ∷ [])) (take (s′ .used) mates′)
-    pairing′ = subst (λ (l : List ℕ). Pairing mostValues l (take (s′ .used) mates′)) listed′ (O .sits .bench .pairing)
+    pairing′ : Pairing width (rowsAt view (is ++ i ∷ [])) (take (s′ .used) mates′)
+    pairing′ = subst (λ (l : List ℕ). Pairing width l (take (s′ .used) mates′)) listed′ (O .sits .bench .pairing)
 
     larger : size (take (s′ .used) mates′) ≡ suc (length is)
     larger =
@@ -51,13 +51,13 @@ module _ {view : List ℕ} {ms : List Bool} {s : Seats} {rows columns mates : Li
     raised-pairs = record {
       sits = O .sits;
       places = is ++ i ∷ [];
-      stands = raised-stands mostValues view ms is (G .stands) i h n (take (s′ .used) mates′) pairing′ larger;
+      stands = raised-stands width view ms is (G .stands) i h n (take (s′ .used) mates′) pairing′ larger;
       listed = listed′;
       small = small′;
     }
 
-    raised-try : try mostValues view ms i ≡ set ms i true
-    raised-try = raised-kept mostValues view ms is (G .stands) i h n (take (s′ .used) mates′) pairing′ larger
+    raised-try : try width view ms i ≡ set ms i true
+    raised-try = raised-kept width view ms is (G .stands) i h n (take (s′ .used) mates′) pairing′ larger
 
   -- it has got none
   module _ (T : Passed (at view i) s rows s′ rows′) where
@@ -70,18 +70,18 @@ module _ {view : List ℕ} {ms : List Bool} {s : Seats} {rows columns mates : Li
     full : size (take (s′ .used) mates′) ≡ length is
     full = bench .full ∙ length-map is (at view)
 
-    most : (q : List ℕ) → Pairing mostValues (rowsAt view (is ++ i ∷ [])) q → size q ≤ length is
+    most : (q : List ℕ) → Pairing width (rowsAt view (is ++ i ∷ [])) q → size q ≤ length is
     most q Q =
         omega (
           arith,
           full,
           size-open (take (s′ .used) mates′),
           passed-largest s′ (rowsAt view is) columns′ (take (s′ .used) mates′) bench (at view i) (small′ i) (T .why) q
-              (subst (λ (l : List ℕ). Pairing mostValues l q) (rows-snoc view is i) Q),
+              (subst (λ (l : List ℕ). Pairing width l q) (rows-snoc view is i) Q),
         )
 
-    passed-try : try mostValues view ms i ≡ ms
-    passed-try = passed-by mostValues view ms is (G .stands) i h n (take (s′ .used) mates′) (bench .pairing) full most
+    passed-try : try width view ms i ≡ ms
+    passed-try = passed-by width view ms is (G .stands) i h n (take (s′ .used) mates′) (bench .pairing) full most
 
     passed-same : Pairs view ms s′ rows′ columns′ mates′
     passed-same = record { sits = O .sits; places = is; stands = G .stands; listed = listed″; small = small′ }
@@ -90,7 +90,7 @@ module _ {view : List ℕ} {ms : List Bool} {s : Seats} {rows columns mates : Li
     passed-marked = record {
       sits = O .sits;
       places = is;
-      stands = passed-stands mostValues view ms is (G .stands) i h n (take (s′ .used) mates′) (bench .pairing) full most;
+      stands = passed-stands width view ms is (G .stands) i h n (take (s′ .used) mates′) (bench .pairing) full most;
       listed = listed″;
       small = small′;
     }
@@ -100,18 +100,18 @@ module _ {view : List ℕ} {ms : List Bool} {s : Seats} {rows columns mates : Li
   pairs-marked = elim (O .either) [ inl T ↦ passed-marked T | inr T ↦ raised-pairs T ]
 
   -- tried, and kept where it has got a seat
-  pub pairs-kept : s .used < s′ .used → Pairs view (set ms i true) s′ rows′ columns′ mates′ × (try mostValues view ms i ≡ set ms i true)
+  pub pairs-kept : s .used < s′ .used → Pairs view (set ms i true) s′ rows′ columns′ mates′ × (try width view ms i ≡ set ms i true)
   pairs-kept more = elim (O .either) [ inl T ↦ absurd (omega (arith, more, T .used)) | inr T ↦ (raised-pairs T, raised-try T) ]
 
-  pub pairs-passed : s′ .used ≤ s .used → Pairs view ms s′ rows′ columns′ mates′ × (try mostValues view ms i ≡ ms)
+  pub pairs-passed : s′ .used ≤ s .used → Pairs view ms s′ rows′ columns′ mates′ × (try width view ms i ≡ ms)
   pairs-passed less = elim (O .either) [ inl T ↦ (passed-same T, passed-try T) | inr T ↦ absurd (omega (arith, less, T .used)) ]
 
 -- ---- one row more has been tried
 
-pub tried-more : (view : List ℕ) (ms₀ ms : List Bool) (n : ℕ) (ms′ : List Bool) → ms ≡ tries mostValues view n zero ms₀
-    → try mostValues view ms n ≡ ms′ → ms′ ≡ tries mostValues view (n + 1) zero ms₀
+pub tried-more : (view : List ℕ) (ms₀ ms : List Bool) (n : ℕ) (ms′ : List Bool) → ms ≡ tries width view n zero ms₀
+    → try width view ms n ≡ ms′ → ms′ ≡ tries width view (n + 1) zero ms₀
 tried-more view ms₀ ms n ms′ e t =
     sym (
-    ap (λ (k : ℕ). tries mostValues view k zero ms₀) (add-one n) ∙ tries-next mostValues view n zero ms₀
-    ∙ ap₂ (try mostValues view) (sym e) (zero-add n) ∙ t
+    ap (λ (k : ℕ). tries width view k zero ms₀) (add-one n) ∙ tries-next width view n zero ms₀
+    ∙ ap₂ (try width view) (sym e) (zero-add n) ∙ t
     )

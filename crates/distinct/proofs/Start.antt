@@ -1,14 +1,15 @@
 -- Where the steps start: no row has a seat and all values below d are free. Assumes nothing.
 use Prim.Native.Nat.{ℕ, zero, suc, _-_, _^_}
-use mathlib.Core.Path.{_≡_, refl, sym, ap, _∙_}
-use mathlib.Core.Bool.{Bool, true}
+use mathlib.Core.Path.{_≡_, refl, sym, ap, ap₂, _∙_}
+use mathlib.Core.Bool.{Bool, true, false}
 use mathlib.Core.List.{List, [], _∷_, List·Memᴰ·not-nil}
 use native.Mathlib.Nat.{suc-ne-zero}
 use native.Mathlib.Decide.{decLt}
 use native.Mathlib.Omega.{arith}
 use lib.Bits.{bitOr}
 use lib.ListN.{length, replicate, length-replicate}
-use Rattle.sets.specs.Limits.{mostValues}
+use Rattle.sets.specs.declared.Row.{Row}
+use Rattle.sets.specs.Rows.{width, bits}
 use Rattle.pairing.specs.Seats.{seats}
 use Rattle.sets.specs.Sets.{has, within}
 use Rattle.sets.proofs.Bools.{not-both}
@@ -51,51 +52,55 @@ module _ (d : ℕ) (view : List ℕ) (C : InColumn d view) where
     | no n ↦ absurd (not-both t (ap (λ (r : ℕ). has r v) (past view i (omega arith)) ∙ has-empty v))
   ]
 
-  -- the seats before any row is asked
-  abbrev start : Seats
-  start = record { d = d; used = zero; entered = zero; free = 2 ^ d - 1; dead = zero; fresh = 2 ^ d - 1; heavy = zero }
+  module _ (all none : Row) (is-all : bits all ≡ 2 ^ d - 1) (is-none : bits none ≡ zero) where
+    -- the seats before any row is asked
+    abbrev start : Seats
+    start = record { d = d; used = zero; entered = zero; free = all; dead = none; fresh = all; heavy = none }
 
-  bench : (columns : List ℕ) → length columns ≡ mostValues → ((v : ℕ) → at columns v ≡ zero) → Bench start [] columns []
-  bench columns wide none = record {
-    used = refl;
-    column = C .column;
-    pairing = pairing-nil mostValues;
-    full = size-nil;
-    small = λ i v t. absurd (not-both t (has-empty v));
-    new = λ v t. (has-all d v t, λ s. suc-ne-zero v (sym (s .1)));
-    free = λ v h s. all-has d v h;
-    shut = λ u t. absurd (not-both t (has-empty u));
-    fresh = λ i v t. absurd (not-both t (has-empty v));
-    index = record {
-      wide = wide;
-      complete = λ i v t. absurd (not-both t (has-empty v));
-      inside = λ i v t. absurd (not-both t (ap (λ (x : ℕ). has (bitOr x zero) i) (none v) ∙ has-empty i));
-    };
-  }
-    where
-      size-nil : size [] ≡ zero
-      size-nil = omega (arith, size-by-rows [])
+    none-has : (v : ℕ) → has (bits none) v ≡ false
+    none-has v = ap (λ (r : ℕ). has r v) is-none ∙ has-empty v
 
-  pub pairs-start : (ms : List Bool) (rows mates : List ℕ) → length ms ≡ length view → length rows ≡ seats → length mates ≡ seats
-      → Pairs view (offered true zero ms) start rows (replicate mostValues zero) mates
-  unfolding offered
-  pairs-start ms rows mates long rows-wide mates-wide = record {
-    sits = record {
-      rows-wide = rows-wide;
-      mates-wide = mates-wide;
-      few = omega arith;
-      bench = bench (replicate mostValues zero) (length-replicate mostValues zero) (at-zeros mostValues);
-    };
-    places = [];
-    stands = record {
-      fits = length-before zero ms ∙ long;
-      apart = tt;
-      marked-all = λ i m. absurd (List·Memᴰ·not-nil m);
-      ranks = ap (rank mostValues) (pick-none ms view) ∙ none;
-    };
-    listed = refl;
-    small = below;
-  }
-    where
-      none : rank mostValues [] ≡ zero
-      none = let h = rank-met mostValues [] in omega (arith, h .2, size-by-rows (h .0), h .1 .fits)
+    bench : (columns : List ℕ) → length columns ≡ width → ((v : ℕ) → at columns v ≡ zero) → Bench start [] columns []
+    bench columns wide empty = record {
+      used = refl;
+      column = omega (arith, C .column);
+      pairing = pairing-nil width;
+      full = size-nil;
+      small = λ i v t. absurd (not-both t (has-empty v));
+      new = λ v t. (has-all d v (rw is-all at t), λ s. suc-ne-zero v (sym (s .1)));
+      free = λ v h s. rw is-all (all-has d v h);
+      shut = λ u t. absurd (not-both t (none-has u));
+      fresh = λ i v t. absurd (not-both t (has-empty v));
+      index = record {
+        wide = wide;
+        complete = λ i v t. absurd (not-both t (has-empty v));
+        inside = λ i v t. absurd (not-both t (ap₂ (λ (x y : ℕ). has (bitOr x y) i) (empty v) is-none ∙ has-empty i));
+      };
+    }
+      where
+        size-nil : size [] ≡ zero
+        size-nil = omega (arith, size-by-rows [])
+
+    pub pairs-start : (ms : List Bool) (rows mates : List ℕ) → length ms ≡ length view → length rows ≡ seats → length mates ≡ seats
+        → Pairs view (offered true zero ms) start rows (replicate width zero) mates
+    unfolding offered
+    pairs-start ms rows mates long rows-wide mates-wide = record {
+      sits = record {
+        rows-wide = rows-wide;
+        mates-wide = mates-wide;
+        few = omega arith;
+        bench = bench (replicate width zero) (length-replicate width zero) (at-zeros width);
+      };
+      places = [];
+      stands = record {
+        fits = length-before zero ms ∙ long;
+        apart = tt;
+        marked-all = λ i m. absurd (List·Memᴰ·not-nil m);
+        ranks = ap (rank width) (pick-none ms view) ∙ no-rank;
+      };
+      listed = refl;
+      small = below;
+    }
+      where
+        no-rank : rank width [] ≡ zero
+        no-rank = let h = rank-met width [] in omega (arith, h .2, size-by-rows (h .0), h .1 .fits)

@@ -5,6 +5,7 @@ use mathlib.Core.Bool.{Bool, true, false}
 use mathlib.Core.List.{List, [], _∷_}
 use lib.ListN.{length, take}
 use Rattle.sets.specs.Limits.{mostValues}
+use Rattle.sets.specs.Rows.{width}
 use Rattle.sets.specs.Sets.{within}
 use Rattle.theory.specs.Kept.{rowsAt, tries}
 use Rattle.theory.specs.Pairings.{at}
@@ -32,7 +33,7 @@ before (suc n) (m ∷ ms) = m ∷ before n ms
 pub record Pairs (view : List ℕ) (ms : List Bool) (s : Seats) (rows columns mates : List ℕ) : Type 0 where
   pub sits : Sitting s rows columns mates
   pub places : List ℕ
-  pub stands : Stands mostValues view ms places
+  pub stands : Stands width view ms places
   pub listed : take (s .used) rows ≡ rowsAt view places
   pub small : (i : ℕ) → Below (s .d) (at view i)
 
@@ -46,4 +47,4 @@ offered false n ms = ms
 -- the marks: as they were; in the others' turn, with those of the rows that were tried and kept
 unfoldable pub marksThen : Bool → List ℕ → ℕ → List Bool → List Bool
 marksThen true view n ms = ms
-marksThen false view n ms = tries mostValues view n zero ms
+marksThen false view n ms = tries width view n zero ms

@@ -2,6 +2,7 @@
 ghost use mathlib.Core.Path.{_≡_};
 ghost use mathlib.Core.List.{_++_};
 ghost use lib.ListN.{length, drop};
+ghost use Rattle.sets.specs.Rows.{rowsOf};
 ghost use Rattle.theory.specs.Kept.{kept};
 ghost use Rattle.minimal.specs.Marking.{NoMarks};
 ghost use Rattle.distinct.specs.Asked.{Askable, answered, listed};
@@ -24,9 +25,10 @@ fn distinct_on(
     mates: &mut [usize],
     list: &mut [usize],
 ) -> usize
-    requires { ⌜ Askable d (now view) (now list) × (length (now keep) ≡ length (now view)) × NoMarks (now keep) ⌝ }
-    requires { ⌜ Places (now view) (now rows) × Places (now view) (now mates) ⌝ }
-    ensures { λ r. ⌜ (r ≡ length (kept d (now (view .entry)))) × (now (list .exit) ≡ kept d (now (view .entry)) ++ drop r (now (list .entry))) ⌝ }
+    requires { ⌜ Askable d (rowsOf (now view)) (now list) × (length (now keep) ≡ length (rowsOf (now view))) × NoMarks (now keep) ⌝ }
+    requires { ⌜ Places (rowsOf (now view)) (rowsOf (now rows)) × Places (rowsOf (now view)) (now mates) ⌝ }
+    ensures { λ r. ⌜ (r ≡ length (kept d (rowsOf (now (view .entry)))))
+        × (now (list .exit) ≡ kept d (rowsOf (now (view .entry))) ++ drop r (now (list .entry))) ⌝ }
 {
     steps::settle(d, view, keep, rows, mates);
     list::list_positions(keep, list)
@@ -35,18 +37,19 @@ fn distinct_on(
 // DISTINCT for a caller that has checked the view: the kept positions go to the front of the list, which keeps its later places.
 // Answers their number. A small view gets few places: to make them ready is most of its time.
 pub fn distinct(d: usize, view: &[u64], list: &mut [usize]) -> usize
-    requires { ⌜ Askable d (now view) (now list) ⌝ }
-    ensures { λ r. ⌜ (r ≡ length (kept d (now (view .entry)))) × (now (list .exit) ≡ kept d (now (view .entry)) ++ drop r (now (list .entry))) ⌝ }
+    requires { ⌜ Askable d (rowsOf (now view)) (now list) ⌝ }
+    ensures { λ r. ⌜ (r ≡ length (kept d (rowsOf (now (view .entry)))))
+        × (now (list .exit) ≡ kept d (rowsOf (now (view .entry))) ++ drop r (now (list .entry))) ⌝ }
 {
-    let n = view.len();
+    let n = sets::row_count(view);
     if n <= SEATS {
         let mut keep = [false; SEATS];
-        let mut rows = [0u64; SEATS];
+        let mut rows = [0u64; SEATS * sets::WORDS];
         let mut mates = [0usize; SEATS];
         return distinct_on(d, view, &mut keep[..n], &mut rows, &mut mates, list);
     }
     let mut keep = [false; Sheet::VIEW];
-    let mut rows = [0u64; Sheet::VIEW];
+    let mut rows = [0u64; Sheet::VIEW * sets::WORDS];
     let mut mates = [0usize; Sheet::VIEW];
     distinct_on(d, view, &mut keep[..n], &mut rows, &mut mates, list)
 }
@@ -59,13 +62,13 @@ pub enum Answer {
 
 // DISTINCT for any caller: a view that cannot be asked about is refused, with nothing written.
 pub fn ask(d: usize, view: &[u64], list: &mut [usize]) -> Answer
-    ensures { λ r. ⌜ (r ≡ answered d (now (view .entry)) (length (now (list .entry))))
-        × (now (list .exit) ≡ listed d (now (view .entry)) (now (list .entry)) r) ⌝ }
+    ensures { λ r. ⌜ (r ≡ answered d (rowsOf (now (view .entry))) (length (now (list .entry))))
+        × (now (list .exit) ≡ listed d (rowsOf (now (view .entry))) (now (list .entry)) r) ⌝ }
 {
     let judged = tables::judge(view, d, Sheet::VIEW);
     match judged {
         Judged::Right => {
-            if list.len() < view.len() {
+            if list.len() < sets::row_count(view) {
                 return Answer::Refused(Refusal::ShortList);
             }
             Answer::Kept(distinct(d, view, list))

@@ -2,16 +2,16 @@
 ghost use mathlib.Core.Path.{_≡_};
 ghost use Prim.Native.Nat.{_≤_};
 ghost use lib.ListN.{length, replicate};
-ghost use Rattle.sets.specs.Limits.{mostValues, mostInView};
+ghost use Rattle.sets.specs.Limits.{mostInView};
+ghost use Rattle.sets.specs.Rows.{width, rowsOf};
 ghost use Rattle.theory.specs.Kept.{marks, tries};
 ghost use Rattle.minimal.specs.Marking.{NoMarks};
 ghost use Rattle.pairing.specs.Seats.{seats};
 ghost use Rattle.distinct.specs.Steps.{InColumn, Places, Pairs, offered, marksThen};
 use pairing::seats::Seats;
-use sheet::Sheet;
 
 // A row that has a mate sits on a seat, and there are no more mates than values.
-pub const SEATS: usize = Sheet::VALUES;
+pub const SEATS: usize = sets::VALUES;
 
 // The rows whose mark is `marked` are offered seats in view order, and one that gets a seat is marked. For marked rows that changes no mark.
 fn offer_seats(
@@ -23,17 +23,19 @@ fn offer_seats(
     columns: &mut [u64],
     mates: &mut [usize],
 ) -> Seats
-    requires { ⌜ Pairs (now view) (offered marked 0 (now keep)) seats (now rows) (now columns) (now mates) ⌝ }
-    ensures { λ r. ⌜ (now (keep .exit) ≡ marksThen marked (now (view .entry)) (length (now (view .entry))) (now (keep .entry)))
-        × Pairs (now (view .entry)) (now (keep .exit)) r (now (rows .exit)) (now (columns .exit)) (now (mates .exit)) ⌝ }
+    requires { ⌜ Pairs (rowsOf (now view)) (offered marked 0 (now keep)) seats (rowsOf (now rows)) (rowsOf (now columns)) (now mates) ⌝ }
+    ensures { λ r. ⌜ (now (keep .exit) ≡ marksThen marked (rowsOf (now (view .entry))) (length (rowsOf (now (view .entry)))) (now (keep .entry)))
+        × Pairs (rowsOf (now (view .entry))) (now (keep .exit)) r (rowsOf (now (rows .exit))) (rowsOf (now (columns .exit)))
+        (now (mates .exit)) ⌝ }
 {
+    let n = sets::row_count(view);
     let mut next: usize = 0;
-    while next < view.len() {
+    while next < n {
         let i = next;
         next += 1;
         if keep[i] == marked {
             let used = seats.used;
-            seats = pairing::seats::offer(view[i], seats, rows, columns, mates);
+            seats = pairing::seats::offer(sets::row_at(view, i), seats, rows, columns, mates);
             if used < seats.used {
                 keep[i] = true;
             }
@@ -52,19 +54,20 @@ fn second_step(
     columns: &mut [u64],
     mates: &mut [usize],
 )
-    requires { ⌜ (length (now keep) ≡ length (now view)) × InColumn d (now view) ⌝ }
-    requires { ⌜ (length (now rows) ≡ seats) × (now columns ≡ replicate mostValues 0) × (length (now mates) ≡ seats) ⌝ }
-    ensures { λ _. ⌜ now (keep .exit) ≡ tries mostValues (now (view .entry)) (length (now (view .entry))) 0 (now (keep .entry)) ⌝ }
+    requires { ⌜ (length (now keep) ≡ length (rowsOf (now view))) × InColumn d (rowsOf (now view)) ⌝ }
+    requires { ⌜ (length (rowsOf (now rows)) ≡ seats) × (rowsOf (now columns) ≡ replicate width 0) × (length (now mates) ≡ seats) ⌝ }
+    ensures { λ _. ⌜ now (keep .exit) ≡ tries width (rowsOf (now (view .entry))) (length (rowsOf (now (view .entry)))) 0 (now (keep .entry)) ⌝ }
 {
     let all = sets::all(d);
+    let none = sets::empty();
     let mut seats = Seats {
         d,
         used: 0,
         entered: 0,
         free: all,
-        dead: 0,
+        dead: none,
         fresh: all,
-        heavy: 0,
+        heavy: none,
     };
     let mut marked = true;
     loop {
@@ -78,17 +81,18 @@ fn second_step(
 
 // The rows that DISTINCT keeps are marked. `rows` and `mates` are scratch places in the first step, and so need not be made ready for the second.
 pub fn settle(d: usize, view: &[u64], keep: &mut [bool], rows: &mut [u64], mates: &mut [usize])
-    requires { ⌜ (length (now view) ≤ mostInView) × (length (now keep) ≡ length (now view)) × NoMarks (now keep) × InColumn d (now view) ⌝ }
-    requires { ⌜ Places (now view) (now rows) × Places (now view) (now mates) ⌝ }
-    ensures { λ _. ⌜ now (keep .exit) ≡ marks d (now (view .entry)) ⌝ }
+    requires { ⌜ (length (rowsOf (now view)) ≤ mostInView) × (length (now keep) ≡ length (rowsOf (now view))) × NoMarks (now keep)
+        × InColumn d (rowsOf (now view)) ⌝ }
+    requires { ⌜ Places (rowsOf (now view)) (rowsOf (now rows)) × Places (rowsOf (now view)) (now mates) ⌝ }
+    ensures { λ _. ⌜ now (keep .exit) ≡ marks d (rowsOf (now (view .entry))) ⌝ }
 {
     minimal::mark_minimal(view, keep, mates, rows);
-    let mut columns = [0u64; Sheet::VALUES];
+    let mut columns = [0u64; sets::VALUES * sets::WORDS];
     second_step(
         d,
         view,
         keep,
-        &mut rows[..SEATS],
+        &mut rows[..SEATS * sets::WORDS],
         &mut columns,
         &mut mates[..SEATS],
     );

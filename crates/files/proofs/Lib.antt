@@ -1,7 +1,8 @@
 -- `ReadExactlyWhen`: when a file is refused, and what is returned. `RequestFile`: the request's own file.
--- `ReaderTurns`: a fresh reader hands out the rows of a file in turn, and then no more. `ReaderRuns`: so does any run of a reader. `Determined`: the contracts leave no choice.
+-- `ReaderTurns`: a fresh reader hands out the rows of a file in turn, and then no more. `ReaderRuns`: so does any run of a reader.
+-- `Determined`: the contracts leave no choice.
 -- `ByteLaws`: numbers in bytes fit a word. `RowLaws`: the first n rows. `RowsJudged`: refusals 26 and 27 by what the code finds.
--- `Filling`: a list whose front is filled. `ReadFiles`: what is known of a file that is judged.
+-- `CellLaws`: a cell as it is read. `Filling`: words whose front is filled. `ReadFiles`: what is known of a file that is judged.
 -- `MadeReader`: what a reader owns that is made of a file and a cursor.
 pub mod ReadExactlyWhen
 pub mod RequestFile
@@ -11,6 +12,7 @@ pub mod Determined
 pub mod ByteLaws
 pub mod RowLaws
 pub mod RowsJudged
+pub mod CellLaws
 pub mod Filling
 pub mod ReadFiles
 pub mod MadeReader

@@ -8,7 +8,7 @@ use contract.Lifetimes.{Lfts}
 use denote.Ref.{now}
 use denote.Triple.Entry.{Args}
 use denote.Triple.Clauses.{AtExit}
-use Rattle.files.specs.declared.Row.{Row}
+use Rattle.files.specs.declared.NextRow.{NextRow}
 use Rattle.files.specs.declared.reader.Reader.{Reader}
 use Rattle.files.specs.Turns.{stepAt, cursor, handedOut, moved}
 use Rattle.files.proofs.Determined.{Makes, Hands}
@@ -24,7 +24,7 @@ pub record Made (file : List ℕ) (r : Reader) : Type 0 where
   pub lends : now (args .0) ≡ file
 
 -- what may come of `Reader::next` on a reader: a row, and the reader as it then is
-pub record Stepped (r : Reader) (x : Row) (r′ : Reader) : Type 0 where
+pub record Stepped (r : Reader) (x : NextRow) (r′ : Reader) : Type 0 where
   pub κs : Lfts 2
   pub args : Args next.signature κs
   pub exit : AtExit next.ended κs
@@ -33,20 +33,20 @@ pub record Stepped (r : Reader) (x : Row) (r′ : Reader) : Type 0 where
   pub after : r′ ≡ now (exit .0)
 
 -- the rows handed out so far, the last first
-pub data Handing (file : List ℕ) : List Row → Reader → Type 0 where
+pub data Handing (file : List ℕ) : List NextRow → Reader → Type 0 where
   made : {r : Reader} → Made file r → Handing file [] r
-  stepped : {said : List Row} {r r′ : Reader} {x : Row} → Handing file said r → Stepped r x r′ → Handing file (x ∷ said) r′
+  stepped : {said : List NextRow} {r r′ : Reader} {x : NextRow} → Handing file said r → Stepped r x r′ → Handing file (x ∷ said) r′
 
-unfoldable pub firstRows : List ℕ → ℕ → List Row
+unfoldable pub firstRows : List ℕ → ℕ → List NextRow
 firstRows file zero = []
 firstRows file (suc n) = handedOut file n ∷ firstRows file n
 
-pub record Standing (file : List ℕ) (said : List Row) (r : Reader) : Type 0 where
+pub record Standing (file : List ℕ) (said : List NextRow) (r : Reader) : Type 0 where
   pub rows : said ≡ firstRows file (length said)
   pub over : now (r .file) ≡ file
   pub place : r .at ≡ cursor file (length said)
 
-pub run-hands-out : {file : List ℕ} {said : List Row} {r : Reader} → Handing file said r → Standing file said r
+pub run-hands-out : {file : List ℕ} {said : List NextRow} {r : Reader} → Handing file said r → Standing file said r
 unfolding firstRows cursor
 run-hands-out (made m) = record { rows = refl; over = ap now (m .admitted .0) ∙ m .lends; place = m .admitted .1 }
 run-hands-out {file} (stepped {said} {r} {r′} {x} run s) =

@@ -1,18 +1,21 @@
 -- A fresh reader, stepped through a file: it hands out exactly the rows that `read` writes, in order, and then says that there are no more,
 -- and keeps saying so. Over a file with any refusal but 28 it says so at once. Assumes nothing.
-use Prim.Native.Nat.{ℕ, zero, suc, _+_, _≤_, _<_}
+use Prim.Native.Nat.{ℕ, zero, suc, _+_, _*_, _≤_, _<_}
 use mathlib.Core.Path.{_≡_, refl, sym, ap, _∙_}
-use mathlib.Core.List.{List, [], _∷_, _++_, append-assoc}
+use mathlib.Core.List.{List, [], _∷_, _++_}
 use native.Mathlib.Nat.{not-suc-le-zero}
 use native.Mathlib.Decide.{ℕ-discrete}
 use native.Mathlib.Numerals.{add-one}
 use native.Mathlib.Omega.{arith}
-use lib.ListN.{length, getD, drop, length-append}
+use lib.ListN.{length, getD, drop, length-append, List·getD-append}
 use lib.Seq.{getD-at}
 use borrow.Author.Tests.{lt-ltb, le-ltb}
+use Rattle.sets.specs.Rows.{rowWords, rowsOf, asRow}
+use Rattle.sets.proofs.RowValues.{row-again}
+use Rattle.sets.proofs.LentRows.{words-at}
 use Rattle.refusals.specs.declared.Refusal.{Refusal}
 use Rattle.files.specs.declared.Lesson.the-variants.{Read, Refused}
-use Rattle.files.specs.declared.Row.the-variants.{Cell, NoMore}
+use Rattle.files.specs.declared.NextRow.the-variants.{Cell, NoMore}
 use Rattle.files.specs.declared.Step.{Step}
 use Rattle.files.specs.Rows.{listTo}
 use Rattle.files.specs.Files.{countIn, cellIn}
@@ -29,21 +32,18 @@ length-list f (suc n) =
     let e : length (listTo f n ++ (f n ∷ [])) ≡ length (listTo f n) + 1 = length-append (listTo f n) (f n ∷ []) in
     omega (arith, length-list f n)
 
-list-at : (f : ℕ → ℕ) (n i : ℕ) (rest : List ℕ) → i < n → getD (listTo f n ++ rest) i zero ≡ f i
+list-at : (f : ℕ → ℕ) (n i : ℕ) → i < n → getD (listTo f n) i zero ≡ f i
 unfolding listTo
-list-at f zero i rest h = absurd (not-suc-le-zero h)
-list-at f (suc n) i rest h = append-assoc-at ∙ (elim (ℕ-discrete i n) [
-  | yes e ↦ rw e (getD-at (listTo f n) (f n) rest zero n (length-list f n))
-  | no ne ↦ list-at f n i (f n ∷ rest) (omega arith)
-])
-  where
-    append-assoc-at : getD ((listTo f n ++ (f n ∷ [])) ++ rest) i zero ≡ getD (listTo f n ++ (f n ∷ rest)) i zero
-    append-assoc-at = ap (λ (l : List ℕ). getD l i zero) (append-assoc (listTo f n) (f n ∷ []) rest)
+list-at f zero i h = absurd (not-suc-le-zero h)
+list-at f (suc n) i h = elim (ℕ-discrete i n) [
+  | yes e ↦ rw e (getD-at (listTo f n) (f n) [] zero n (length-list f n))
+  | no ne ↦ List·getD-append (listTo f n) (f n ∷ []) zero i (omega (arith, length-list f n)) ∙ list-at f n i (omega arith)
+]
 
 -- ---- a file that is read
 
 module _ (file : List ℕ) (d t : ℕ) (read : judged file ≡ Read d t) where
-  within : (k : ℕ) → k < t → stepAt file k ≡ record { row = Cell (cellIn file k); next = k + 1 }
+  within : (k : ℕ) → k < t → stepAt file k ≡ record { row = Cell (asRow (cellIn file k)); next = k + 1 }
   unfolding stepAt
   within k h = rw (read, lt-ltb k t h) refl
 
@@ -69,11 +69,14 @@ module _ (file : List ℕ) (d t : ℕ) (read : judged file ≡ Read d t) where
       ap (cursor file) e ∙ next (k + t) ∙ ap (λ (m : ℕ). stepAt file m .next) (stays k) ∙ ap (λ (s : Step). s .next) (past t (omega arith))
 
   -- step n hands out the row that `read` writes to place n
-  pub rows-in-turn : (rows : List ℕ) (n : ℕ) → n < t → handedOut file n ≡ Cell (getD (filled file rows (Read d t)) n zero)
-  rows-in-turn rows n h =
+  pub rows-in-turn : (words : List ℕ) (n : ℕ) → n < t → handedOut file n ≡ Cell (asRow (getD (rowsOf (filled file words (Read d t))) n zero))
+  rows-in-turn words n h =
+      let here : n < countIn file = rw (sym (readable file d t read .count)) h in
+      let long : n < length (listTo (cellIn file) (countIn file)) = omega (arith, here, length-list (cellIn file) (countIn file)) in
       ap (λ (k : ℕ). stepAt file k .row) (counts n (omega arith))
       ∙ ap (λ (s : Step). s .row) (within n h)
-      ∙ ap Cell (sym (list-at (cellIn file) (countIn file) n (drop t rows) (rw (sym (readable file d t read .count)) h)))
+      ∙ ap Cell (sym (ap asRow (words-at (listTo (cellIn file) (countIn file)) (drop (t * rowWords) words) n long)
+      ∙ row-again (getD (listTo (cellIn file) (countIn file)) n zero) ∙ ap asRow (list-at (cellIn file) (countIn file) n here)))
 
   -- after T steps there are no more rows, however often it is asked
   pub then-no-more : (k : ℕ) → handedOut file (k + t) ≡ NoMore

@@ -1,7 +1,8 @@
 -- What is answered of a lesson file, and what reading it leaves (the request, 'Lesson files').
-use Prim.Native.Nat.{ℕ, zero}
+use Prim.Native.Nat.{ℕ, zero, _*_}
 use mathlib.Core.List.{List, _++_}
 use lib.ListN.{drop}
+use Rattle.sets.specs.Rows.{rowWords, inWords}
 use Rattle.refusals.specs.Refusals.{number, row}
 use Rattle.refusals.specs.Cases.{decided}
 use Rattle.files.specs.declared.Lesson.{Lesson}
@@ -40,5 +41,5 @@ answered file places = decided Refused (readCases file places) (Read (valuesIn f
 
 -- 'the first T places hold the rows and the rest keep what they had'; a refusal 'writes nothing'
 abbrev pub filled : List ℕ → List ℕ → Lesson → List ℕ
-filled file rows (Read d t) = cellsIn file ++ drop t rows
-filled file rows (Refused r) = rows
+filled file words (Read d t) = inWords (cellsIn file) ++ drop (t * rowWords) words
+filled file words (Refused r) = words

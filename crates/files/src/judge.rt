@@ -25,7 +25,7 @@ fn judge_rows(file: &[u8], d: usize, t: usize) -> Lesson
             if t == 0 {
                 return Lesson::Read(d, t);
             }
-            if numbers::union(file, t) == 0 {
+            if sets::is_empty(numbers::union(file, t)) {
                 return Lesson::Refused(Refusal::AllUnknown);
             }
             Lesson::Read(d, t)

@@ -5,10 +5,12 @@ ghost use mathlib.Core.Bool.{cond};
 ghost use mathlib.Core.List.{_++_};
 ghost use lib.Dec.{eqb};
 ghost use lib.ListN.{length, drop};
+ghost use Rattle.sets.specs.Rows.{rowWords, bits, Holds, rowsOf, inWords};
 ghost use Rattle.files.specs.Files.{countIn, cellIn, cellsIn};
 ghost use Rattle.files.specs.Reading.{answered, filled};
 ghost use Rattle.files.specs.Turns.{stepAt};
 use refusals::Refusal;
+use sets::Row;
 
 mod numbers; // numbers.rt: numbers in bytes, and the rows of a file
 mod judge; // judge.rt: refusals 20 to 27
@@ -24,55 +26,55 @@ pub enum Lesson {
 }
 
 // What a reader hands out: a row, or that there are no more.
-pub enum Row {
-    Cell(u64),
+pub enum NextRow {
+    Cell(Row),
     NoMore,
 }
 
 // A row, and the cursor after it.
 pub struct Step {
-    pub row: Row,
+    pub row: NextRow,
     pub next: usize,
 }
 
 // A row as it is read: an unknown one stands for all values of the file's rows.
-fn known(row: u64, all: u64) -> u64
-    ensures { λ r. ⌜ r ≡ cond (eqb row 0) all row ⌝ }
+fn known(row: Row, all: Row) -> Row
+    ensures { λ r. ⌜ r ≡ cond (eqb (bits row) 0) all row ⌝ }
 {
-    if row == 0 { all } else { row }
+    if sets::is_empty(row) { all } else { row }
 }
 
 // The cell of row i.
-fn cell(file: &[u8], t: usize, i: usize) -> u64
+fn cell(file: &[u8], t: usize, i: usize) -> Row
     requires { ⌜ (t ≡ countIn (now file)) × (i < t) × (8 + 8 * t ≤ length (now file)) ⌝ }
-    ensures { λ r. ⌜ r ≡ cellIn (now (file .entry)) i ⌝ }
+    ensures { λ r. ⌜ Holds r (cellIn (now (file .entry)) i) ⌝ }
 {
     known(numbers::row(file, i), numbers::union(file, t))
 }
 
 // All cells go to the front of the list, which keeps its later places.
 fn fill(file: &[u8], t: usize, rows: &mut [u64])
-    requires { ⌜ (t ≡ countIn (now file)) × (8 + 8 * t ≤ length (now file)) × (t ≤ length (now rows)) ⌝ }
-    ensures { λ _. ⌜ now (rows .exit) ≡ cellsIn (now (file .entry)) ++ drop t (now (rows .entry)) ⌝ }
+    requires { ⌜ (t ≡ countIn (now file)) × (8 + 8 * t ≤ length (now file)) × (t ≤ length (rowsOf (now rows))) ⌝ }
+    ensures { λ _. ⌜ now (rows .exit) ≡ inWords (cellsIn (now (file .entry))) ++ drop (t * rowWords) (now (rows .entry)) ⌝ }
 {
     let all = numbers::union(file, t);
     let mut next: usize = 0;
     while next < t {
         let row = numbers::row(file, next);
-        rows[next] = known(row, all);
+        sets::put_row(rows, next, known(row, all));
         next += 1;
     }
 }
 
 // A lesson file into a lent list: d and T, or the lowest refusal, with nothing written.
 pub fn read(file: &[u8], rows: &mut [u64]) -> Lesson
-    ensures { λ r. ⌜ (r ≡ answered (now (file .entry)) (length (now (rows .entry))))
+    ensures { λ r. ⌜ (r ≡ answered (now (file .entry)) (length (rowsOf (now (rows .entry)))))
         × (now (rows .exit) ≡ filled (now (file .entry)) (now (rows .entry)) r) ⌝ }
 {
     let lesson = judge::judge(file);
     match lesson {
         Lesson::Read(d, t) => {
-            if rows.len() < t {
+            if sets::row_count(rows) < t {
                 return Lesson::Refused(Refusal::FewPlaces);
             }
             fill(file, t, rows);
@@ -91,17 +93,17 @@ pub fn step_at(file: &[u8], at: usize) -> Step
         Lesson::Read(_, t) => {
             if at < t {
                 return Step {
-                    row: Row::Cell(cell(file, t, at)),
+                    row: NextRow::Cell(cell(file, t, at)),
                     next: at + 1,
                 };
             }
             Step {
-                row: Row::NoMore,
+                row: NextRow::NoMore,
                 next: at,
             }
         }
         Lesson::Refused(_) => Step {
-            row: Row::NoMore,
+            row: NextRow::NoMore,
             next: at,
         },
     }

@@ -4,10 +4,12 @@ ghost use Prim.Native.Nat.{_≤_, _<_, _+_, _*_};
 ghost use mathlib.Core.Bool.{not};
 ghost use lib.ListN.{length};
 ghost use Rattle.sets.specs.Sets.{below};
+ghost use Rattle.sets.specs.Rows.{Holds};
 ghost use Rattle.files.specs.Bytes.{big};
 ghost use Rattle.files.specs.Rows.{unionTo, lowestTo};
 ghost use Rattle.files.specs.Files.{rowIn};
 use sets::Found;
+use sets::Row;
 
 // The number in n bytes from a place on, the first byte highest.
 pub fn number(file: &[u8], from: usize, n: usize) -> u64
@@ -24,22 +26,22 @@ pub fn number(file: &[u8], from: usize, n: usize) -> u64
 }
 
 // Row i as it stands in the file.
-pub fn row(file: &[u8], i: usize) -> u64
+pub fn row(file: &[u8], i: usize) -> Row
     requires { ⌜ 16 + 8 * i ≤ length (now file) ⌝ }
-    ensures { λ r. ⌜ r ≡ rowIn (now (file .entry)) i ⌝ }
+    ensures { λ r. ⌜ Holds r (rowIn (now (file .entry)) i) ⌝ }
 {
-    number(file, 8 + 8 * i, 8)
+    sets::of_word(number(file, 8 + 8 * i, 8))
 }
 
 // The values of the first n rows together.
-pub fn union(file: &[u8], n: usize) -> u64
+pub fn union(file: &[u8], n: usize) -> Row
     requires { ⌜ 8 + 8 * n ≤ length (now file) ⌝ }
-    ensures { λ r. ⌜ r ≡ unionTo (rowIn (now (file .entry))) n ⌝ }
+    ensures { λ r. ⌜ Holds r (unionTo (rowIn (now (file .entry))) n) ⌝ }
 {
-    let mut all: u64 = 0;
+    let mut all = sets::empty();
     let mut next: usize = 0;
     while next < n {
-        all = all | row(file, next);
+        all = sets::either(all, row(file, next));
         next += 1;
     }
     all

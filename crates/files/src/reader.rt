@@ -1,7 +1,7 @@
 // The reader: a lesson file and a cursor, which hands out the rows in turn.
 ghost use mathlib.Core.Path.{_≡_};
 ghost use Rattle.files.specs.Turns.{stepAt, moved};
-use crate::Row;
+use crate::NextRow;
 use crate::Step;
 use crate::step_at;
 
@@ -20,7 +20,7 @@ impl<'a> Reader<'a> {
     }
 
     // The next row, or that there are no more; the cursor moves on.
-    pub fn next(&mut self) -> Row
+    pub fn next(&mut self) -> NextRow
         ensures { λ x. ⌜ (x ≡ stepAt (now (now (self .entry) .file)) (now (self .entry) .at) .row)
             × (now (self .exit) ≡ moved (now (self .entry))) ⌝ }
     {

@@ -7,6 +7,7 @@ use contract.Lifetimes.{Lfts}
 use denote.Ref.{now}
 use denote.Triple.Entry.{Args, Res}
 use denote.Triple.Clauses.{AtExit}
+use Rattle.sets.specs.Rows.{rowsOf}
 use Rattle.walks.proofs.Public.{Public, Contract}
 use Rattle.host.specs.declared.spoken.Told.{Told}
 use Rattle.host.specs.declared.spoken.Handed.{Handed}
@@ -36,9 +37,9 @@ host-distinct-determined =
 -- what the entry in place ensures of its arguments (the sheet, the table, d, the desk, the kind, its argument, the list), what it tells, and what it lent
 abbrev pub Alters : (κs : Lfts 3) → Args alter.signature κs → Res alter.signature κs → AtExit alter.ended κs → Type 0
 Alters κs (s, (table, (d, (desk, (kind, (n, (list, _))))))) r (s′, (table′, (d′, (desk′, (kind′, (n′, (list′, _))))))) =
-    (r ≡ handedBy (askedBy kind n) d (now table) (now s) desk (length (now list)) .told)
-    × (now s′ ≡ handedBy (askedBy kind n) d (now table) (now s) desk (length (now list)) .sheet)
-    × (now list′ ≡ listOf (askedBy kind n) d (now table) (now s) desk (now list))
+    (r ≡ handedBy (askedBy kind n) d (rowsOf (now table)) (now s) desk (length (now list)) .told)
+    × (now s′ ≡ handedBy (askedBy kind n) d (rowsOf (now table)) (now s) desk (length (now list)) .sheet)
+    × (now list′ ≡ listOf (askedBy kind n) d (rowsOf (now table)) (now s) desk (now list))
 
 pub host-alter-contract : Contract alter.ended (λ M 𝓤. alter.clauses 𝓤) Alters
 host-alter-contract = record { is = λ M 𝓤 H A mem run κs a. refl }

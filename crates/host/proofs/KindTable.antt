@@ -4,6 +4,8 @@ use mathlib.Core.Path.{_≡_, refl}
 use mathlib.Core.List.{[], _∷_, map}
 use native.Mathlib.Omega.{arith}
 use borrow.Author.Tests.{ne-eqb}
+use Rattle.sets.specs.declared.Row.{Row}
+use Rattle.sets.specs.Rows.{bits, asRow}
 use Rattle.refusals.specs.declared.Refusal.the-variants.{BadRow, NoRoom}
 use Rattle.store.specs.declared.Target.the-variants.{Table, Own}
 use Rattle.store.specs.declared.Call.the-variants.{Do, Ask}
@@ -17,7 +19,7 @@ use Rattle.host.specs.Numbers.{toldKept}
 use Rattle.host.specs.Spoken.{askedBy, toldOf}
 
 pub kinds-printed : (n : ℕ) → map (λ (kind : ℕ). askedBy kind n) (0 ∷ 1 ∷ 2 ∷ 3 ∷ 4 ∷ 5 ∷ 6 ∷ [])
-    ≡ One (Do (Delete (Table n))) ∷ One (Do (Delete (Own n))) ∷ One (Do (Insert n)) ∷ One (Do Reset) ∷ One (Ask (Look n)) ∷ One (Ask Count) ∷ One
+    ≡ One (Do (Delete (Table n))) ∷ One (Do (Delete (Own n))) ∷ One (Do (Insert (asRow n))) ∷ One (Do Reset) ∷ One (Ask (Look n)) ∷ One (Ask Count) ∷ One
     (Ask Distinct) ∷ []
 unfolding askedBy
 kinds-printed n = refl
@@ -40,9 +42,10 @@ other-kinds kind n h =
 abbrev tells : ℕ → ℕ → ℕ → Told
 tells refusal first second = record { refusal = refusal; first = first; second = second }
 
-pub told-printed : (set rows own n i : ℕ) → map toldOf (Done ∷ Seen set ∷ Counted rows own ∷ Listed n ∷ Refused (BadRow i) ∷ Refused NoRoom ∷ [])
-    ≡ tells 0 0 0 ∷ tells 0 set 0 ∷ tells 0 rows own ∷ tells 0 n 0 ∷ tells 2 i 0 ∷ tells 10 0 0 ∷ []
-told-printed set rows own n i = refl
+pub told-printed : (row : Row) (rows own n i : ℕ)
+    → map toldOf (Done ∷ Seen row ∷ Counted rows own ∷ Listed n ∷ Refused (BadRow i) ∷ Refused NoRoom ∷ [])
+    ≡ tells 0 0 0 ∷ tells 0 (bits row) 0 ∷ tells 0 rows own ∷ tells 0 n 0 ∷ tells 2 i 0 ∷ tells 10 0 0 ∷ []
+told-printed row rows own n i = refl
 
 -- of a view that belongs to no desk
 pub kept-printed : (n i : ℕ) → map toldKept (view.Kept n ∷ view.Refused (BadRow i) ∷ []) ≡ tells 0 n 0 ∷ tells 2 i 0 ∷ []

@@ -10,6 +10,7 @@ use denote.Triple.Entry.{Args}
 use denote.Triple.Clauses.{AtExit}
 use borrow.Fn.Kinds.{Dens, endedOf}
 use Rattle.sheet.specs.declared.Sheet.{Sheet}
+use Rattle.sets.specs.Rows.{rowsOf}
 use Rattle.store.specs.Calls.{begunSheet, sheetAfter, told}
 use Rattle.store.specs.Promise.{Turn, Store, sheetOn, classStore}
 use Rattle.store.proofs.Runs.{Run, after, saying, run-says}
@@ -66,7 +67,7 @@ module _ (d : ℕ) (table : List ℕ) (desks : ℕ) where
     pub handed : Handed
     pub exit : AtExit (endedOf 1 begin-kinds.ps begin-kinds.r) κs
     pub admitted : begin.Post κs args handed exit
-    pub lends : (now (args .0) ≡ table) × (args .1 .0 ≡ d) × (args .1 .1 .0 ≡ desks)
+    pub lends : (rowsOf (now (args .0)) ≡ table) × (args .1 .0 ≡ d) × (args .1 .1 .0 ≡ desks)
     pub hands-over : s ≡ handed .sheet
 
   pub record Called (s : Sheet) (a : Ask) (o : Heard) (s′ : Sheet) : Type 0 where
@@ -75,7 +76,7 @@ module _ (d : ℕ) (table : List ℕ) (desks : ℕ) where
     pub handed : Handed
     pub exit : AtExit (endedOf 2 call-kinds.ps call-kinds.r) κs
     pub admitted : call.Post κs args handed exit
-    pub lends : (now (args .0) ≡ table) × (args .1 .0 ≡ d) × (args .1 .1 .0 ≡ s)
+    pub lends : (rowsOf (now (args .0)) ≡ table) × (args .1 .0 ≡ d) × (args .1 .1 .0 ≡ s)
     pub asks : (args .1 .1 .1 .0 ≡ a .desk) × (args .1 .1 .1 .1 .0 ≡ a .kind) × (args .1 .1 .1 .1 .1 .0 ≡ a .n)
         × (now (args .1 .1 .1 .1 .1 .1 .0) ≡ a .list)
     pub tells : o ≡ record { told = handed .told; list = now (exit .1 .1 .1 .1 .1 .1 .0) }
@@ -87,7 +88,7 @@ module _ (d : ℕ) (table : List ℕ) (desks : ℕ) where
     pub told : Told
     pub exit : AtExit alter.ended κs
     pub admitted : Alters κs args told exit
-    pub lends : (now (args .1 .0) ≡ table) × (args .1 .1 .0 ≡ d) × (now (args .0) ≡ s)
+    pub lends : (rowsOf (now (args .1 .0)) ≡ table) × (args .1 .1 .0 ≡ d) × (now (args .0) ≡ s)
     pub asks : (args .1 .1 .1 .0 ≡ a .desk) × (args .1 .1 .1 .1 .0 ≡ a .kind) × (args .1 .1 .1 .1 .1 .0 ≡ a .n)
         × (now (args .1 .1 .1 .1 .1 .1 .0) ≡ a .list)
     pub tells : o ≡ record { told = told; list = now (exit .1 .1 .1 .1 .1 .1 .0) }

@@ -3,6 +3,7 @@ use Prim.Native.Nat.{ℕ, zero}
 use mathlib.Core.Bool.{cond}
 use mathlib.Core.List.{List}
 use lib.Dec.{eqb}
+use Rattle.sets.specs.Rows.{asRow}
 use Rattle.theory.specs.Pairings.{at}
 use Rattle.sheet.specs.declared.Sheet.{Sheet}
 use Rattle.store.specs.declared.Target.the-variants.{Table, Own}
@@ -23,7 +24,7 @@ unfoldable pub askedBy : ℕ → ℕ → Asked
 askedBy kind n =
     cond (eqb kind 0) (One (Do (Delete (Table n))))
     (cond (eqb kind 1) (One (Do (Delete (Own n))))
-    (cond (eqb kind 2) (One (Do (Insert n)))
+    (cond (eqb kind 2) (One (Do (Insert (asRow n))))
     (cond (eqb kind 3) (One (Do Reset))
     (cond (eqb kind 4) (One (Ask (Look n)))
     (cond (eqb kind 5) (One (Ask Count))

@@ -1,5 +1,6 @@
 // The store for hosts in other languages: plain numbers and slices, and nothing that a host has to promise.
 ghost use mathlib.Core.Path.{_≡_};
+ghost use Rattle.sets.specs.Rows.{rowsOf};
 ghost use Rattle.distinct.specs.Asked.{answered, listed};
 ghost use Rattle.host.specs.Numbers.{toldKept};
 ghost use lib.ListN.{length};
@@ -16,8 +17,8 @@ mod spoken; // spoken.rt: calls and answers as plain numbers
 // DISTINCT over a view that belongs to no desk. Answers how many positions stand at the front of the list, or a refusal and its row.
 #[no_mangle]
 pub extern "C" fn foliokettle_distinct(d: usize, view: &[u64], list: &mut [usize]) -> Told
-    ensures { λ r. ⌜ (r ≡ toldKept (answered d (now (view .entry)) (length (now (list .entry)))))
-        × (now (list .exit) ≡ listed d (now (view .entry)) (now (list .entry)) (answered d (now (view .entry)) (length (now (list .entry))))) ⌝ }
+    ensures { λ r. ⌜ (r ≡ toldKept (answered d (rowsOf (now (view .entry))) (length (now (list .entry)))))
+        × (now (list .exit) ≡ listed d (rowsOf (now (view .entry))) (now (list .entry)) (answered d (rowsOf (now (view .entry))) (length (now (list .entry))))) ⌝ }
 {
     let answer = distinct::ask(d, view, list);
     match answer {
@@ -37,7 +38,7 @@ pub extern "C" fn foliokettle_distinct(d: usize, view: &[u64], list: &mut [usize
 // A lesson begins.
 #[no_mangle]
 pub extern "C" fn foliokettle_begin(table: &[u64], d: usize, desks: usize) -> Handed
-    ensures { λ r. ⌜ r ≡ handed (begun d (now (table .entry)) desks) ⌝ }
+    ensures { λ r. ⌜ r ≡ handed (begun d (rowsOf (now (table .entry))) desks) ⌝ }
 {
     let reply = store::begin(table, d, desks);
     let answer = reply.answer;
@@ -57,8 +58,8 @@ pub extern "C" fn foliokettle_call(
     n: u64,
     list: &mut [usize],
 ) -> Handed
-    ensures { λ r. ⌜ (r ≡ handedBy (askedBy kind n) d (now (table .entry)) sheet desk (length (now (list .entry))))
-        × (now (list .exit) ≡ listOf (askedBy kind n) d (now (table .entry)) sheet desk (now (list .entry))) ⌝ }
+    ensures { λ r. ⌜ (r ≡ handedBy (askedBy kind n) d (rowsOf (now (table .entry))) sheet desk (length (now (list .entry))))
+        × (now (list .exit) ≡ listOf (askedBy kind n) d (rowsOf (now (table .entry))) sheet desk (now (list .entry))) ⌝ }
 {
     let asked = spoken::heard(kind, n);
     let Asked::One(call) = asked else {
@@ -111,9 +112,9 @@ pub extern "C" fn foliokettle_alter(
     n: u64,
     list: &mut [usize],
 ) -> Told
-    ensures { λ r. ⌜ (r ≡ handedBy (askedBy kind n) d (now (table .entry)) (now (sheet .entry)) desk (length (now (list .entry))) .told)
-        × (now (sheet .exit) ≡ handedBy (askedBy kind n) d (now (table .entry)) (now (sheet .entry)) desk (length (now (list .entry))) .sheet)
-        × (now (list .exit) ≡ listOf (askedBy kind n) d (now (table .entry)) (now (sheet .entry)) desk (now (list .entry))) ⌝ }
+    ensures { λ r. ⌜ (r ≡ handedBy (askedBy kind n) d (rowsOf (now (table .entry))) (now (sheet .entry)) desk (length (now (list .entry))) .told)
+        × (now (sheet .exit) ≡ handedBy (askedBy kind n) d (rowsOf (now (table .entry))) (now (sheet .entry)) desk (length (now (list .entry))) .sheet)
+        × (now (list .exit) ≡ listOf (askedBy kind n) d (rowsOf (now (table .entry))) (now (sheet .entry)) desk (now (list .entry))) ⌝ }
 {
     let before = *sheet;
     let handed = foliokettle_call(table, d, before, desk, kind, n, list);

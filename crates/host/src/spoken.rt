@@ -40,7 +40,7 @@ pub fn heard(kind: u64, n: u64) -> Asked
         return Asked::One(Call::Do(Change::Delete(Target::Own(n as usize))));
     }
     if kind == 2 {
-        return Asked::One(Call::Do(Change::Insert(n)));
+        return Asked::One(Call::Do(Change::Insert(sets::of_word(n))));
     }
     if kind == 3 {
         return Asked::One(Call::Do(Change::Reset));
@@ -66,9 +66,9 @@ pub fn tell(answer: Answer) -> Told
             first: 0,
             second: 0,
         },
-        Answer::Seen(set) => Told {
+        Answer::Seen(row) => Told {
             refusal: 0,
-            first: set,
+            first: sets::as_word(row),
             second: 0,
         },
         Answer::Counted(rows, held) => Told {

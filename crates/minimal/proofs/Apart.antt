@@ -3,14 +3,15 @@
 use Prim.Native.Nat.{ℕ, zero, suc, _≤_}
 use mathlib.Core.Path.{_≡_, refl, sym, ap, _∙_, subst}
 use mathlib.Core.Logic.{_≢_, _⊎_, inl, inr}
-use mathlib.Core.Bool.{true}
+use mathlib.Core.Bool.{Bool, true, false, not}
 use mathlib.Core.List.{List}
 use native.Mathlib.Nat.{suc-ne-zero, suc-inj}
 use native.Mathlib.Decide.{ℕ-discrete}
 use native.Mathlib.Omega.{arith}
 use lib.Bits.{bitAnd}
+use lib.Dec.{eqb}
 use lib.ListN.{length}
-use borrow.Author.Tests.{eqb-true}
+use borrow.Author.Tests.{eqb-true, eqb-false, not-true, not-false}
 use Rattle.sets.specs.Sets.{has, single, subset}
 use Rattle.sets.proofs.Bools.{and-left, and-right, and-both, not-both}
 use Rattle.sets.proofs.Values.{has-and, has-empty, has-single}
@@ -32,6 +33,17 @@ common a b ne =
 
 pub single-only : (u v : ℕ) → has (single u) v ≡ true → u ≡ v
 single-only u v e = eqb-true u v (sym (has-single u v) ∙ e)
+
+-- b answers whether a row meets the set s: `r` is the row as it was read, `a` as the list has it
+module _ {b : Bool} {r a : ℕ} (s : ℕ) (read : r ≡ a) (answer : b ≡ not (eqb (bitAnd r s) zero)) where
+  pub read-meets : b ≡ not (eqb (bitAnd a s) zero)
+  read-meets = answer ∙ ap (λ (x : ℕ). not (eqb (bitAnd x s) zero)) read
+
+  pub meets-no : b ≡ false → bitAnd a s ≡ zero
+  meets-no e = eqb-true (bitAnd a s) zero (not-false (eqb (bitAnd a s) zero) (sym read-meets ∙ e))
+
+  pub meets-yes : b ≡ true → bitAnd a s ≢ zero
+  meets-yes e = eqb-false (bitAnd a s) zero (not-true (eqb (bitAnd a s) zero) (sym read-meets ∙ e))
 
 -- ---- clear rows
 

@@ -1,27 +1,25 @@
 -- The chains are made from the last row on: each candidate goes in front of the chain of those with as many values. Assumes nothing.
 use Prim.Native.Nat.{ℕ, zero, _+_, _-_, _≤_, _<_}
 use mathlib.Core.Path.{_≡_, refl, sym, ap, _∙_, subst}
-use mathlib.Core.Logic.{inl, inr}
 use mathlib.Core.List.{List}
 use native.Mathlib.Decide.{ℕ-discrete}
 use native.Mathlib.Omega.{arith}
 use lib.Bits.{bitOr}
 use lib.Count.{ones}
 use lib.ListN.{length, set, length-set, replicate, getD-replicate}
-use Rattle.sets.specs.Limits.{wordBits}
 use Rattle.sets.specs.Sets.{has, single}
-use Rattle.sets.proofs.Values.{with-old, with-new, with-cases}
-use Rattle.sets.proofs.ValuesBelow.{less-has, has-less}
+use Rattle.sets.specs.Rows.{width}
+use Rattle.sets.proofs.Values.{with-old, with-new}
 use Rattle.theory.specs.Pairings.{at}
 use Rattle.theory.proofs.Places.{at-same, at-other}
 use Rattle.minimal.specs.Marking.{Candidate, InChain, FirstFrom, Past, Chains, Sizes}
 
 -- ---- the start
 
-pub heads-past : (rows : List ℕ) → Past rows (replicate (wordBits + 1) (length rows))
-heads-past rows k h = omega (arith, getD-replicate (wordBits + 1) k (length rows) zero (omega arith))
+pub heads-past : (rows : List ℕ) (n : ℕ) → n ≡ length rows → Past rows (replicate (width + 1) n)
+heads-past rows n e k h = omega (arith, getD-replicate (width + 1) k n zero (omega arith))
 
-pub chains-start : (rows next head : List ℕ) → length rows ≤ length next → length head ≡ wordBits + 1 → Past rows head
+pub chains-start : (rows next head : List ℕ) → length rows ≤ length next → length head ≡ width + 1 → Past rows head
     → Chains rows next head (length rows)
 chains-start rows next head l w past = record {
   long = l;
@@ -31,7 +29,7 @@ chains-start rows next head l w past = record {
 }
 
 pub sizes-start : (rows : List ℕ) → Sizes rows (length rows) zero
-sizes-start rows = record { word = omega arith; all = λ j a b. absurd (omega arith) }
+sizes-start rows = record { all = λ j a b. absurd (omega arith) }
 
 -- ---- one row
 
@@ -61,16 +59,14 @@ module _ (rows : List ℕ) (t u : ℕ) (e : t ≡ u + 1) where
 
   pub sizes-skip : (sizes : ℕ) → (Candidate rows u → ⊥) → Sizes rows t sizes → Sizes rows u sizes
   sizes-skip sizes dim S = record {
-    word = S .word;
     all = λ j a b. elim (ℕ-discrete j u) [
       | yes q ↦ λ c. absurd (dim (subst (Candidate rows) q c))
       | no ne ↦ S .all j (omega arith) b
     ];
   }
 
-  pub sizes-more : (sizes : ℕ) → ones (at rows u) - 1 < wordBits → Sizes rows t sizes → Sizes rows u (bitOr sizes (single (ones (at rows u) - 1)))
-  sizes-more sizes small S = record {
-    word = less-has wordBits (bitOr sizes (single (ones (at rows u) - 1))) (λ v h. elim (with-cases sizes (ones (at rows u) - 1) v h) [ inl q ↦ omega (arith, q, small) | inr o ↦ has-less wordBits sizes v (S .word) o ]);
+  pub sizes-more : (sizes : ℕ) → Sizes rows t sizes → Sizes rows u (bitOr sizes (single (ones (at rows u) - 1)))
+  sizes-more sizes S = record {
     all = λ j a b c. elim (ℕ-discrete j u) [
       | yes q ↦ ap (λ (x : ℕ). has (bitOr sizes (single (ones (at rows u) - 1))) (ones (at rows x) - 1)) q ∙ with-new sizes (ones (at rows u) - 1)
       | no ne ↦ with-old sizes (ones (at rows u) - 1) (ones (at rows j) - 1) (S .all j (omega arith) b c)
@@ -79,7 +75,7 @@ module _ (rows : List ℕ) (t u : ℕ) (e : t ≡ u + 1) where
 
   -- row u is a candidate
   module _ (next head : List ℕ) (C : Chains rows next head t) (h : u < length rows) (judge : Candidate rows u)
-      (few : ones (at rows u) ≤ wordBits) where
+      (few : ones (at rows u) ≤ width) where
     abbrev n : ℕ
     n = ones (at rows u)
 

@@ -11,12 +11,14 @@ use lib.Count.{ones}
 use lib.ListN.{length, set, length-set}
 use Rattle.sets.specs.Limits.{wordBits}
 use Rattle.sets.specs.Sets.{has, single, subset, proper}
+use Rattle.sets.specs.Rows.{tagOf}
 use Rattle.sets.proofs.Bools.{true-or-false, not-both}
 use Rattle.sets.proofs.Values.{with-old, with-new}
 use Rattle.sets.proofs.Subsets.{subset-same}
+use Rattle.sets.proofs.RowValues.{tag-less}
 use Rattle.theory.specs.Pairings.{at}
 use Rattle.theory.proofs.Places.{stored, at-same, at-other}
-use Rattle.minimal.specs.Marking.{Scanned, tagWords, mostTags, tagOf, hasTag, withTag, ToTest}
+use Rattle.minimal.specs.Marking.{Scanned, tagWords, hasTag, withTag, ToTest}
 use Rattle.minimal.proofs.Counts.{proper-fewer}
 
 -- the rows found from `base` on have k values, and their tags are among the tags
@@ -24,10 +26,6 @@ pub record Tagged (mins : List ℕ) (base found k : ℕ) (tags : List ℕ) : Typ
   pub wide : length tags ≡ tagWords
   pub least : base ≤ found
   pub same : (m : ℕ) → base ≤ m → m < found → (ones (at mins m) ≡ k) × (hasTag tags (tagOf (at mins m)) ≡ true)
-
-pub tag-small : (x : ℕ) → tagOf x < mostTags
-unfolding tagOf
-tag-small x = omega arith
 
 -- ---- one tag more
 
@@ -52,15 +50,15 @@ tagged-start mins found k tags wide = record { wide = wide; least = omega arith;
 
 module _ {mins : List ℕ} {base found k : ℕ} {tags : List ℕ} (T : Tagged mins base found k tags) (x : ℕ) (c : ones x ≡ k) where
   -- x is found
-  pub tagged-more : found < length mins → Tagged (set mins found x) base (found + 1) k (withTag tags (tagOf x))
-  tagged-more h = record {
+  with-row : found < length mins → Tagged (set mins found x) base (found + 1) k (withTag tags (tagOf x))
+  with-row h = record {
     wide = length-set tags (tagOf x / wordBits) (bitOr (at tags (tagOf x / wordBits)) (single (tagOf x % wordBits))) ∙ T .wide;
     least = omega (arith, T .least);
     same = λ m a b. elim (ℕ-discrete m found) [ yes e ↦ new m e | no ne ↦ old m a ne b ];
   }
     where
       inside : tagOf x / wordBits < length tags
-      inside = omega (arith, tag-small x, T .wide)
+      inside = omega (arith, tag-less x, T .wide)
 
       new : (m : ℕ) → m ≡ found → (ones (at (set mins found x) m) ≡ k) × (hasTag (withTag tags (tagOf x)) (tagOf (at (set mins found x) m)) ≡ true)
       new m e =
@@ -73,6 +71,13 @@ module _ {mins : List ℕ} {base found k : ℕ} {tags : List ℕ} (T : Tagged mi
           let is : at (set mins found x) m ≡ at mins m = at-other mins found x m ne in
           let t = T .same m a (omega arith) in
           (ap ones is ∙ t .0, tag-old tags (tagOf x) inside (tagOf (at (set mins found x) m)) (ap (λ (y : ℕ). hasTag tags (tagOf y)) is ∙ t .1))
+
+  -- the same of what the code has in hand
+  pub tagged-more : found < length mins → {mins′ tags′ : List ℕ} → mins′ ≡ set mins found x → tags′ ≡ withTag tags (tagOf x)
+      → Tagged mins′ base (found + 1) k tags′
+  tagged-more h p q =
+      subst (Tagged _ base (found + 1) k) (sym q)
+      (subst (λ (m : List ℕ). Tagged m base (found + 1) k (withTag tags (tagOf x))) (sym p) (with-row h))
 
   -- no row from `base` on is a subset of a row with another tag
   apart : hasTag tags (tagOf x) ≡ false → (m : ℕ) → base ≤ m → m < found → subset (at mins m) x ≡ false

@@ -1,6 +1,6 @@
 -- The candidates are judged by how many values they have, few values first, and in view order among equals:
 -- what could strike a row out is judged before. Assumes nothing.
-use Prim.Native.Nat.{ℕ, zero, _+_, _-_, _^_, _≤_, _<_}
+use Prim.Native.Nat.{ℕ, zero, _+_, _-_, _≤_, _<_}
 use mathlib.Core.Path.{_≡_, refl, sym, ap, _∙_, subst}
 use mathlib.Core.Logic.{_≢_, _⊎_, inl, inr}
 use mathlib.Core.Bool.{Bool, true, false}
@@ -11,13 +11,12 @@ use native.Mathlib.Omega.{arith}
 use lib.Count.{ones, trailingZeros}
 use lib.ListN.{length, set, length-set}
 use lib.Seq.{ext-getD, getD-set-other}
-use Rattle.sets.specs.Limits.{wordBits}
 use Rattle.sets.specs.Sets.{has, single, subset, proper, minus}
+use Rattle.sets.specs.Rows.{width}
 use Rattle.sets.proofs.Bools.{true-or-false, not-both, is-false}
-use Rattle.sets.proofs.Extremes.{lowest-has, lowest-least}
-use Rattle.sets.proofs.Subsets.{subset-refl, subset-trans, subset-same, without-less}
+use Rattle.sets.proofs.Extremes.{lowest-least}
+use Rattle.sets.proofs.Subsets.{subset-refl, subset-trans, subset-same}
 use Rattle.sets.proofs.Values.{has-empty, has-same, minus-in, minus-out}
-use Rattle.sets.proofs.ValuesBelow.{minus-word}
 use Rattle.theory.specs.Pairings.{at}
 use Rattle.theory.specs.Kept.{marked, pick, firsts}
 use Rattle.theory.proofs.Places.{at-same, at-other}
@@ -109,26 +108,33 @@ module _ {rows : List ℕ} {keep : List Bool} {mins : List ℕ}
   sieve-hit : NoneWithin mins found (at rows i) → found < length mins
       → Sieve rows (set keep i true) (set mins found (at rows i)) (found + 1) k (i + 1)
   sieve-hit none l = record {
-    marks = marks-more (set keep i true) (length-set keep i true ∙ S .marks .long) (mark-same keep i (omega (arith, S .marks .long)) ∙ sym (first-yes rows i h spared)) (λ j ne. getD-set-other keep i j true false ne);
+    marks =
+        marks-more (set keep i true) (length-set keep i true ∙ S .marks .long)
+        (mark-same keep i (omega (arith, S .marks .long)) ∙ sym (first-yes rows i h spared)) (λ j ne. getD-set-other keep i j true false ne);
     room = omega (arith, S .room, one-more);
     from = λ m a. elim (ℕ-discrete m found) [
       | yes e ↦ (i, h, here, ap (at (set mins found (at rows i))) e ∙ at-same mins found (at rows i) l)
       | no ne ↦ let t = S .from m (omega arith) in (t .0, t .1, before-more rows k i (t .0) (t .2), at-other mins found (at rows i) m ne ∙ t .3)
     ];
     cover = λ j a c b. elim (ℕ-discrete j i) [
-      | yes e ↦ (found, omega arith, subst (λ (x : ℕ). subset x (at rows j) ≡ true) (ap (at rows) e ∙ sym (at-same mins found (at rows i) l)) (subset-refl (at rows j)))
+      | yes e ↦
+          let here = ap (at rows) e ∙ sym (at-same mins found (at rows i) l) in
+          (found, omega arith, subst (λ (x : ℕ). subset x (at rows j) ≡ true) here (subset-refl (at rows j)))
       | no ne ↦ older (at rows j) (S .cover j a c (before-less rows k i j ne b))
     ];
   }
     where
       older : (x : ℕ) → SomeWithin mins found x → SomeWithin (set mins found (at rows i)) (found + 1) x
-      older x (m, a, e) = (m, omega arith, subst (λ (y : ℕ). subset y x ≡ true) (sym (at-other mins found (at rows i) m (λ q. lt-irrefl found (subst (λ (y : ℕ). y < found) q a)))) e)
+      older x (m, a, e) =
+          let other = at-other mins found (at rows i) m (λ q. lt-irrefl found (subst (λ (y : ℕ). y < found) q a)) in
+          (m, omega arith, subst (λ (y : ℕ). subset y x ≡ true) (sym other) e)
 
       spared : (j : ℕ) → j < length rows → Strikes rows j i → ⊥
       spared j a s =
           let f = leader rows j (subset-clear rows (at rows j) (at rows i) (s .0) (C .0 .clear)) in
           let t = S .cover (f .0) (omega (arith, f .1)) (f .3) (before-same rows k i (f .0) j (f .1) (f .2) (strikes-before j s)) in
-          not-both (subset-trans (at mins (t .0)) (at rows j) (at rows i) (subst (λ (x : ℕ). subset (at mins (t .0)) x ≡ true) (f .2) (t .2)) (s .0)) (none (t .0) (t .1))
+          let inside = subst (λ (x : ℕ). subset (at mins (t .0)) x ≡ true) (f .2) (t .2) in
+          not-both (subset-trans (at mins (t .0)) (at rows j) (at rows i) inside (s .0)) (none (t .0) (t .1))
 
 -- ---- from a chain's row to the next, and from a chain to the next
 
@@ -184,7 +190,7 @@ walk-from : {rows : List ℕ} {keep : List Bool} {mins : List ℕ} {found k i x 
     → Walk rows keep mins found k x
 walk-from F S = record { sieve = sieve-jump F S; hit = F .hit }
 
-pub walk-start : {rows next head : List ℕ} {keep : List Bool} {mins : List ℕ} {found k : ℕ} → Chains rows next head zero → k ≤ wordBits
+pub walk-start : {rows next head : List ℕ} {keep : List Bool} {mins : List ℕ} {found k : ℕ} → Chains rows next head zero → k ≤ width
     → Sieve rows keep mins found k zero → Walk rows keep mins found k (at head k)
 walk-start {k = k} C h S = walk-from (C .heads k h) S
 
@@ -202,9 +208,11 @@ module _ {rows next head : List ℕ} (C : Chains rows next head zero) {keep : Li
   pub walk-miss : SomeWithin mins found (at rows i) → Walk rows keep mins found k (at next i)
   walk-miss some = walk-from link (sieve-miss (W .sieve) h (W .hit h) some)
 
-  pub walk-hit : NoneWithin mins found (at rows i) → found < length mins
-      → Walk rows (set keep i true) (set mins found (at rows i)) (found + 1) k (at next i)
-  walk-hit none l = walk-from link (sieve-hit (W .sieve) h (W .hit h) none l)
+  pub walk-hit : NoneWithin mins found (at rows i) → found < length mins → {mins′ : List ℕ} → mins′ ≡ set mins found (at rows i)
+      → Walk rows (set keep i true) mins′ (found + 1) k (at next i)
+  walk-hit none l e =
+      subst (λ (m : List ℕ). Walk rows (set keep i true) m (found + 1) k (at next i)) (sym e)
+      (walk-from link (sieve-hit (W .sieve) h (W .hit h) none l))
 
 -- ---- from level to level
 
@@ -212,7 +220,6 @@ module _ {rows next head : List ℕ} (C : Chains rows next head zero) {keep : Li
 pub record Levels (rows : List ℕ) (keep : List Bool) (mins : List ℕ) (found left : ℕ) : Type 0 where
   pub k : ℕ
   pub sieve : Sieve rows keep mins found k zero
-  pub word : left < 2 ^ wordBits
   pub rest : (j : ℕ) → j < length rows → Candidate rows j → (ones (at rows j) < k) ⊎ (has left (ones (at rows j) - 1) ≡ true)
   pub far : (v : ℕ) → has left v ≡ true → k ≤ v + 1
 
@@ -221,7 +228,6 @@ pub levels-start : {rows : List ℕ} {keep : List Bool} {sizes : ℕ} (mins : Li
 levels-start {rows} mins Z M = record {
   k = zero;
   sieve = record { marks = M; room = omega arith; from = λ m l. absurd (not-suc-le-zero l); cover = λ j l c b. absurd (nothing j b) };
-  word = Z .word;
   rest = λ j l c. inr (Z .all j (omega arith) l c);
   far = λ v h. omega arith;
 }
@@ -237,45 +243,39 @@ module _ {rows : List ℕ} {keep : List Bool} {mins : List ℕ} {found left : �
       same : (j : ℕ) → j < length keep → marked keep j ≡ marked (firsts rows) j
       same j l =
           let n : j < length rows = omega (arith, L .sieve .marks .long) in
-          L .sieve .marks .right j n (λ c. elim (L .rest j n c) [ inl h ↦ inl h | inr h ↦ absurd (not-both h (ap (λ (x : ℕ). has x (ones (at rows j) - 1)) z ∙ has-empty (ones (at rows j) - 1))) ])
+          let none = ap (λ (x : ℕ). has x (ones (at rows j) - 1)) z ∙ has-empty (ones (at rows j) - 1) in
+          L .sieve .marks .right j n (λ c. elim (L .rest j n c) [ inl h ↦ inl h | inr h ↦ absurd (not-both h none) ])
 
   -- v is the lowest size left
-  module _ (full : NoneEmpty rows) {v : ℕ} (is : v ≡ trailingZeros wordBits left) (ne : left ≢ zero) where
-    lowest : (v < wordBits) × (has left v ≡ true)
-    lowest = subst (λ (x : ℕ). (x < wordBits) × (has left x ≡ true)) (sym is) (lowest-has wordBits left (L .word) ne)
-
+  module _ (full : NoneEmpty rows) {v : ℕ} (is : v ≡ trailingZeros width left) (lowest : has left v ≡ true) where
     least : (u : ℕ) → has left u ≡ true → v ≤ u
-    least u h = omega (arith, is, lowest-least wordBits left u h)
-
-    pub level-small : v + 1 ≤ wordBits
-    level-small = omega (arith, lowest .0)
-
-    pub level-less : (rest : ℕ) → rest ≡ minus left (single (trailingZeros wordBits left)) → rest < left
-    level-less rest e = omega (arith, e ∙ ap (λ (x : ℕ). minus left (single x)) (sym is), without-less left v (lowest .1))
+    least u h = omega (arith, is, lowest-least width left u h)
 
     -- its rows are next
     pub level-sieve : Sieve rows keep mins found (v + 1) zero
     level-sieve = sieve-moved rows keep (L .k) zero (v + 1) zero to back mins found (L .sieve)
       where
         to : (j : ℕ) → Before rows (L .k) zero j → Before rows (v + 1) zero j
-        to j (inl h) = inl (omega (arith, h, L .far v (lowest .1)))
+        to j (inl h) = inl (omega (arith, h, L .far v lowest))
         to j (inr h) = absurd (not-suc-le-zero (h .1))
 
         back : (j : ℕ) → j < length rows → Candidate rows j → Before rows (v + 1) zero j → Before rows (L .k) zero j
         back j l c (inr h) = absurd (not-suc-le-zero (h .1))
-        back j l c (inl h) = elim (L .rest j l c) [ inl b ↦ inl b | inr t ↦ absurd (omega (arith, h, least (ones (at rows j) - 1) t, some-ones (at rows j) (full j l))) ]
+        back j l c (inl h) = elim (L .rest j l c) [
+          | inl b ↦ inl b
+          | inr t ↦ absurd (omega (arith, h, least (ones (at rows j) - 1) t, some-ones (at rows j) (full j l)))
+        ]
 
     -- and then judged
     pub level-judged : {keep′ : List Bool} {mins′ : List ℕ} {found′ : ℕ} (rest : ℕ)
-        → rest ≡ minus left (single (trailingZeros wordBits left)) → Sieve rows keep′ mins′ found′ (v + 1 + 1) zero
+        → rest ≡ minus left (single (trailingZeros width left)) → Sieve rows keep′ mins′ found′ (v + 1 + 1) zero
         → Levels rows keep′ mins′ found′ rest
     level-judged {keep′} {mins′} {found′} rest e S =
         subst (Levels rows keep′ mins′ found′) (sym (e ∙ ap (λ (x : ℕ). minus left (single x)) (sym is))) (record {
           k = v + 1 + 1;
           sieve = S;
-          word = minus-word wordBits left (single v) (L .word);
           rest = λ j l c. elim (L .rest j l c) [
-            | inl h ↦ inl (omega (arith, h, L .far v (lowest .1)))
+            | inl h ↦ inl (omega (arith, h, L .far v lowest))
             | inr h ↦ elim (true-or-false (has (single v) (ones (at rows j) - 1))) [
               | inl q ↦ inl (omega (arith, single-only v (ones (at rows j) - 1) q))
               | inr n ↦ inr (minus-in left (single v) (ones (at rows j) - 1) h n)

@@ -1,5 +1,5 @@
 -- The rows of one value are marked in view order, of equal ones the first. Assumes nothing.
-use Prim.Native.Nat.{ℕ, zero, _+_, _^_, _<_}
+use Prim.Native.Nat.{ℕ, zero, _+_, _<_}
 use mathlib.Core.Path.{_≡_, sym, ap, _∙_, subst}
 use mathlib.Core.Logic.{_≢_, inl, inr}
 use mathlib.Core.Bool.{Bool, true, false}
@@ -7,19 +7,16 @@ use mathlib.Core.List.{List}
 use native.Mathlib.Nat.{not-suc-le-zero}
 use native.Mathlib.Decide.{ℕ-discrete}
 use native.Mathlib.Omega.{arith}
-use lib.Bits.{bitAnd, bitOr, or-zero-l}
-use lib.Count.{trailingZeros}
+use lib.Bits.{bitAnd, bitOr}
 use lib.Dec.{eqb}
 use lib.ListN.{length, set, length-set}
 use lib.Seq.{getD-set-other}
 use borrow.Author.Tests.{eqb-true, eqb-false}
-use Rattle.sets.specs.Limits.{wordBits}
 use Rattle.sets.specs.Sets.{has, single, subset}
 use Rattle.sets.proofs.Bools.{not-both, is-false, or-right}
 use Rattle.sets.proofs.Values.{has-empty, has-or, has-same, with-old, with-cases}
 use Rattle.sets.proofs.Subsets.{subset-has, has-subset, subset-antisym}
 use Rattle.sets.proofs.ValuesBelow.{some-value}
-use Rattle.sets.proofs.Extremes.{lowest-has}
 use Rattle.theory.specs.Pairings.{at}
 use Rattle.theory.specs.Kept.{marked, firsts}
 use Rattle.theory.proofs.Marks.{mark-same, mark-cases}
@@ -55,21 +52,12 @@ within-single a v ne e =
 
 -- ---- whether a row has one value
 
-module _ (x : ℕ) (h : x < 2 ^ wordBits) (ne : x ≢ zero) (v : ℕ) (e : v ≡ trailingZeros wordBits x) where
-  pub lowest-less : v < wordBits
-  lowest-less = omega (arith, lowest-has wordBits x h ne .0)
-
-  pub one-value : (s : ℕ) → s ≡ bitOr zero (single v) → IsSingle (eqb x s) x
-  one-value s q = record {
-    one = λ t. (v, eqb-true x s t ∙ is);
-    more = λ f u d. eqb-false x s f (d ∙ ap single (single-only u v (ap (λ (y : ℕ). has y v) (sym d) ∙ there)) ∙ sym is);
-  }
-    where
-      is : s ≡ single v
-      is = q ∙ or-zero-l (single v)
-
-      there : has x v ≡ true
-      there = ap (has x) e ∙ lowest-has wordBits x h ne .1
+-- r answers whether a row that has the value v is the set of v
+pub one-value : (r : Bool) (x v s : ℕ) → has x v ≡ true → s ≡ single v → r ≡ eqb x s → IsSingle r x
+one-value r x v s there is answer = record {
+  one = λ t. (v, eqb-true x s (sym answer ∙ t) ∙ is);
+  more = λ f u d. eqb-false x s (sym answer ∙ f) (d ∙ ap single (single-only u v (ap (λ (y : ℕ). has y v) (sym d) ∙ there)) ∙ sym is);
+}
 
 -- ---- one row
 
@@ -148,7 +136,10 @@ module _ {rows : List ℕ} {keep : List Bool} {i s : ℕ} (P : Passed rows keep 
 module _ {rows : List ℕ} {keep : List Bool} {s : ℕ} (P : Passed rows keep (length rows) s) where
   -- a row that has a value of s, and other values, is marked neither here nor by the first step
   common-right : (j : ℕ) → j < length rows → bitAnd (at rows j) s ≢ zero → marked keep j ≡ marked (firsts rows) j
-  common-right j l ne = elim (ℕ-discrete (at rows j) (single v)) [ yes e ↦ P .right j v l e | no more ↦ unmarked more ∙ sym (first-no rows j l (m .0) (m .1) (strikes more)) ]
+  common-right j l ne = elim (ℕ-discrete (at rows j) (single v)) [
+    | yes e ↦ P .right j v l e
+    | no more ↦ unmarked more ∙ sym (first-no rows j l (m .0) (m .1) (strikes more))
+  ]
     where
       t : (v : ℕ) × (has (at rows j) v ≡ true) × (has s v ≡ true)
       t = common (at rows j) s ne

@@ -1,6 +1,6 @@
 -- What the contracts say while the minimal rows of a view are marked: which values are rows of their own, how the other rows are chained,
 -- and which rows are judged. The marks they come to are `firsts` (the request, 'Which rows DISTINCT keeps').
-use Prim.Native.Nat.{ℕ, zero, suc, _+_, _-_, _*_, _/_, _%_, _^_, _≤_, _<_}
+use Prim.Native.Nat.{ℕ, zero, suc, _+_, _-_, _*_, _/_, _%_, _≤_, _<_}
 use mathlib.Core.Path.{_≡_}
 use mathlib.Core.Logic.{_≢_, _⊎_}
 use mathlib.Core.Bool.{Bool, true, false}
@@ -9,6 +9,7 @@ use lib.Bits.{bitOr}
 use lib.Count.{ones}
 use lib.ListN.{length, set}
 use Rattle.sets.specs.Limits.{wordBits}
+use Rattle.sets.specs.Rows.{width}
 use Rattle.sets.specs.Sets.{has, single, subset}
 use Rattle.theory.specs.Pairings.{at}
 use Rattle.theory.specs.Kept.{marked, pick, firsts}
@@ -82,10 +83,6 @@ tagWords = 8
 abbrev pub mostTags : ℕ
 mostTags = tagWords * wordBits
 
--- a number below `mostTags` that goes by the row alone
-unfoldable pub tagOf : ℕ → ℕ
-tagOf x = x % 509
-
 -- the tag t is in a set of tags
 abbrev pub hasTag : List ℕ → ℕ → Bool
 hasTag tags t = has (at tags (t / wordBits)) (t % wordBits)
@@ -119,16 +116,15 @@ pub record FirstFrom (rows : List ℕ) (k i x : ℕ) : Type 0 where
 
 -- no chain has begun
 abbrev pub Past : List ℕ → List ℕ → Type 0
-Past rows head = (k : ℕ) → k ≤ wordBits → length rows ≤ at head k
+Past rows head = (k : ℕ) → k ≤ width → length rows ≤ at head k
 
--- head and next lead through the rows of each chain from place t on; a row has no more values than a word has bits
+-- head and next lead through the rows of each chain from place t on; a row has `width` values at most
 pub record Chains (rows next head : List ℕ) (t : ℕ) : Type 0 where
   pub long : length rows ≤ length next
-  pub wide : length head ≡ wordBits + 1
-  pub heads : (k : ℕ) → k ≤ wordBits → FirstFrom rows k t (at head k)
+  pub wide : length head ≡ width + 1
+  pub heads : (k : ℕ) → k ≤ width → FirstFrom rows k t (at head k)
   pub links : (i : ℕ) → t ≤ i → i < length rows → Candidate rows i → FirstFrom rows (ones (at rows i)) (i + 1) (at next i)
 
 -- s has, for each candidate from place t on, one less than the number of its values
 pub record Sizes (rows : List ℕ) (t s : ℕ) : Type 0 where
-  pub word : s < 2 ^ wordBits
   pub all : (j : ℕ) → t ≤ j → j < length rows → Candidate rows j → has s (ones (at rows j) - 1) ≡ true

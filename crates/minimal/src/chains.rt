@@ -3,39 +3,42 @@ ghost use mathlib.Core.Path.{_≡_};
 ghost use mathlib.Core.Bool.{true, false};
 ghost use Prim.Native.Nat.{_+_, _≤_, _<_};
 ghost use lib.ListN.{length};
-ghost use Rattle.sets.specs.Limits.{mostInView, wordBits};
+ghost use Rattle.sets.specs.Limits.{mostInView};
+ghost use Rattle.sets.specs.Rows.{width, bits, rowsOf};
 ghost use Rattle.minimal.specs.Marking.{NoneEmpty, Singles, Repeats, Past, Chains, Sizes};
+use sets::Row;
 
-// How many sizes a row can have: from 0 values to all the bits of a word.
-pub const SIZES: usize = sets::BITS + 1;
+// How many sizes a row can have: from no value to all of them.
+pub const SIZES: usize = sets::VALUES + 1;
 
 // Row i is the same as the row before it, and so not the first of equal ones. A view of equal rows would take half as long again.
 fn repeats(rows: &[u64], i: usize) -> bool
-    requires { ⌜ i < length (now rows) ⌝ }
-    ensures { λ r. ⌜ (r ≡ true → Repeats (now (rows .entry)) i) × (r ≡ false → Repeats (now (rows .entry)) i → ⊥) ⌝ }
+    requires { ⌜ i < length (rowsOf (now rows)) ⌝ }
+    ensures { λ r. ⌜ (r ≡ true → Repeats (rowsOf (now (rows .entry))) i) × (r ≡ false → Repeats (rowsOf (now (rows .entry))) i → ⊥) ⌝ }
 {
     if i == 0 {
         return false;
     }
-    rows[i - 1] == rows[i]
+    sets::equal(sets::row_at(rows, i - 1), sets::row_at(rows, i))
 }
 
 // Chains the rows that have no value of `singles` and are not the same as the row before by how many values they have, in view order:
 // head[k] is the first place with k values, next[i] the next one after i with as many; a number past the view where there is none.
 // Answers how many values the chained rows have: the set has k - 1 where there are rows of k values.
-pub fn chain(rows: &[u64], singles: u64, next: &mut [usize], head: &mut [u16]) -> u64
-    requires { ⌜ (length (now rows) ≤ mostInView) × NoneEmpty (now rows) × Singles (now rows) (length (now rows)) singles ⌝ }
-    requires { ⌜ (length (now rows) ≤ length (now next)) × (length (now head) ≡ wordBits + 1) × Past (now rows) (now head) ⌝ }
-    ensures { λ r. ⌜ Chains (now (rows .entry)) (now (next .exit)) (now (head .exit)) 0 × Sizes (now (rows .entry)) 0 r ⌝ }
+pub fn chain(rows: &[u64], singles: Row, next: &mut [usize], head: &mut [u16]) -> Row
+    requires { ⌜ (length (rowsOf (now rows)) ≤ mostInView) × NoneEmpty (rowsOf (now rows))
+        × Singles (rowsOf (now rows)) (length (rowsOf (now rows))) (bits singles) ⌝ }
+    requires { ⌜ (length (rowsOf (now rows)) ≤ length (now next)) × (length (now head) ≡ width + 1) × Past (rowsOf (now rows)) (now head) ⌝ }
+    ensures { λ r. ⌜ Chains (rowsOf (now (rows .entry))) (now (next .exit)) (now (head .exit)) 0 × Sizes (rowsOf (now (rows .entry))) 0 (bits r) ⌝ }
 {
-    let mut sizes: u64 = 0;
-    let mut left = rows.len();
+    let mut sizes = sets::empty();
+    let mut left = sets::row_count(rows);
     while 0 < left {
         left -= 1;
-        let row = rows[left];
-        if row & singles == 0 {
+        let row = sets::row_at(rows, left);
+        if !sets::meets(row, singles) {
             if !repeats(rows, left) {
-                let k = u64::count_ones(row) as usize;
+                let k = sets::count(row);
                 next[left] = head[k] as usize;
                 head[k] = left as u16;
                 sizes = sets::with(sizes, k - 1);

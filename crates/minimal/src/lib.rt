@@ -5,6 +5,7 @@ ghost use mathlib.Core.Path.{_≡_};
 ghost use Prim.Native.Nat.{_≤_};
 ghost use lib.ListN.{length};
 ghost use Rattle.sets.specs.Limits.{mostInView};
+ghost use Rattle.sets.specs.Rows.{rowsOf};
 ghost use Rattle.theory.specs.Kept.{firsts};
 ghost use Rattle.minimal.specs.Marking.{NoMarks, NoneEmpty};
 
@@ -15,9 +16,10 @@ mod sieve; // sieve.rt: the rows of the chains are judged, few values first
 
 // Marks the minimal rows, of equal ones the first. `next` and `mins` are scratch places.
 pub fn mark_minimal(rows: &[u64], keep: &mut [bool], next: &mut [usize], mins: &mut [u64])
-    requires { ⌜ (length (now rows) ≤ mostInView) × (length (now keep) ≡ length (now rows)) × NoMarks (now keep) × NoneEmpty (now rows) ⌝ }
-    requires { ⌜ (length (now rows) ≤ length (now next)) × (length (now rows) ≤ length (now mins)) ⌝ }
-    ensures { λ _. ⌜ now (keep .exit) ≡ firsts (now (rows .entry)) ⌝ }
+    requires { ⌜ (length (rowsOf (now rows)) ≤ mostInView) × (length (now keep) ≡ length (rowsOf (now rows))) × NoMarks (now keep)
+        × NoneEmpty (rowsOf (now rows)) ⌝ }
+    requires { ⌜ (length (rowsOf (now rows)) ≤ length (now next)) × (length (rowsOf (now rows)) ≤ length (rowsOf (now mins))) ⌝ }
+    ensures { λ _. ⌜ now (keep .exit) ≡ firsts (rowsOf (now (rows .entry))) ⌝ }
 {
     let singles = singles::mark_singles(rows, keep);
     sieve::sift(rows, singles, keep, next, mins);

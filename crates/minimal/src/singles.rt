@@ -3,31 +3,35 @@ ghost use mathlib.Core.Path.{_≡_};
 ghost use mathlib.Core.Logic.{_≢_};
 ghost use Prim.Native.Nat.{zero};
 ghost use lib.ListN.{length};
+ghost use Rattle.sets.specs.Rows.{bits, rowsOf};
 ghost use Rattle.minimal.specs.Marking.{NoMarks, NoneEmpty, IsSingle, Singles, Marks};
+use sets::Row;
 
 // The row has one value.
-fn is_single(x: u64) -> bool
-    requires { ⌜ x ≢ zero ⌝ }
-    ensures { λ r. ⌜ IsSingle r x ⌝ }
+fn is_single(x: Row) -> bool
+    requires { ⌜ bits x ≢ zero ⌝ }
+    ensures { λ r. ⌜ IsSingle r (bits x) ⌝ }
 {
-    x == sets::with(0, sets::lowest(x))
+    sets::equal(x, sets::single(sets::lowest(x)))
 }
 
 // Marks the rows of one value, of equal ones the first, and answers the set of their values.
-pub fn mark_singles(rows: &[u64], keep: &mut [bool]) -> u64
-    requires { ⌜ (length (now keep) ≡ length (now rows)) × NoMarks (now keep) × NoneEmpty (now rows) ⌝ }
-    ensures { λ r. ⌜ Singles (now (rows .entry)) (length (now (rows .entry))) r × Marks (now (rows .entry)) (now (keep .exit)) 0 0 ⌝ }
+pub fn mark_singles(rows: &[u64], keep: &mut [bool]) -> Row
+    requires { ⌜ (length (now keep) ≡ length (rowsOf (now rows))) × NoMarks (now keep) × NoneEmpty (rowsOf (now rows)) ⌝ }
+    ensures { λ r. ⌜ Singles (rowsOf (now (rows .entry))) (length (rowsOf (now (rows .entry)))) (bits r)
+        × Marks (rowsOf (now (rows .entry))) (now (keep .exit)) 0 0 ⌝ }
 {
-    let mut singles: u64 = 0;
+    let n = sets::row_count(rows);
+    let mut singles = sets::empty();
     let mut next: usize = 0;
-    while next < rows.len() {
+    while next < n {
         let i = next;
         next += 1;
-        let x = rows[i];
+        let x = sets::row_at(rows, i);
         if is_single(x) {
-            if x & singles == 0 {
+            if !sets::meets(x, singles) {
                 keep[i] = true;
-                singles = singles | x;
+                singles = sets::either(singles, x);
             }
         }
     }

@@ -2,25 +2,17 @@
 ghost use mathlib.Core.Path.{_≡_};
 ghost use Prim.Native.Nat.{_<_};
 ghost use lib.ListN.{length};
-ghost use Rattle.minimal.specs.Marking.{tagWords, mostTags, tagOf, hasTag, withTag, ToTest};
+ghost use Rattle.minimal.specs.Marking.{tagWords, mostTags, hasTag, withTag, ToTest};
 
-// The words that the tags fill, a bit for each tag. (No limit of the request.)
+// The words that the tags fill, a bit for each tag that `sets::tag` can answer. (No limit of the request.)
 pub const TAG_WORDS: usize = 8;
-
-// A number that goes by the row alone: rows with different tags are different. 509 is the last prime below the bits of `TAG_WORDS` words,
-// and a prime so that rows that differ mostly have different tags.
-pub fn tag(x: u64) -> usize
-    ensures { λ r. ⌜ r ≡ tagOf x ⌝ }
-{
-    (x % 509) as usize
-}
 
 // The tag t is among the tags, of which each word has as many as it has bits.
 fn has_tag(tags: &[u64], t: usize) -> bool
     requires { ⌜ (t < mostTags) × (length (now tags) ≡ tagWords) ⌝ }
     ensures { λ r. ⌜ r ≡ hasTag (now (tags .entry)) t ⌝ }
 {
-    sets::has(tags[t / sets::BITS], t % sets::BITS)
+    sets::word::has(tags[t / sets::word::BITS], t % sets::word::BITS)
 }
 
 // Puts the tag t among the tags.
@@ -28,8 +20,8 @@ pub fn add_tag(tags: &mut [u64], t: usize)
     requires { ⌜ (t < mostTags) × (length (now tags) ≡ tagWords) ⌝ }
     ensures { λ _. ⌜ now (tags .exit) ≡ withTag (now (tags .entry)) t ⌝ }
 {
-    let word = t / sets::BITS;
-    tags[word] = sets::with(tags[word], t % sets::BITS);
+    let word = t / sets::word::BITS;
+    tags[word] = sets::word::with(tags[word], t % sets::word::BITS);
 }
 
 // How many of the minimal rows found so far have to be tested against a row with the tag t. Those from `base` on have as many values as the row:

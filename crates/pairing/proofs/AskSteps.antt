@@ -1,6 +1,6 @@
 -- What each step of the search shows: a free row takes the value; a taken row asks its present value;
 -- a value goes through the rows that hold it. Assumes nothing.
-use Prim.Native.Nat.{ℕ, zero, suc, _+_, _-_, _^_, _≤_, _<_}
+use Prim.Native.Nat.{ℕ, zero, suc, _+_, _/_, _≤_, _<_}
 use mathlib.Core.Path.{_≡_, refl, sym, ap, _∙_, subst}
 use mathlib.Core.Logic.{_≢_, _⊎_, inl, inr}
 use mathlib.Core.Bool.{Bool, true, false, cond, true≢false, false≢true}
@@ -10,21 +10,30 @@ use native.Mathlib.Numerals.{add-one}
 use native.Mathlib.Decide.{ℕ-discrete}
 use native.Mathlib.Omega.{arith}
 use lib.Bits.{bitOr}
-use lib.Count.{leadingZeros}
 use lib.ListN.{length, set}
 use lib.Seq.{set-set, set-getD}
 use borrow.Author.Tests.{eqb-true}
-use Rattle.sets.specs.Limits.{mostValues, wordBits}
+use Rattle.sets.specs.declared.Row.{Row}
 use Rattle.sets.specs.Sets.{has, single, minus}
+use Rattle.sets.specs.Rows.{rowWords, width, bits, rowsOf, putRow}
 use Rattle.sets.proofs.Bools.{true-or-false, not-both, is-false}
 use Rattle.sets.proofs.Values.{with-old, with-new, with-cases, minus-in, minus-out, minus-none, has-single}
-use Rattle.sets.proofs.Extremes.{top-has, top-none}
 use Rattle.sets.proofs.Subsets.{without-less}
-use Rattle.sets.proofs.ValuesBelow.{minus-word}
+use Rattle.sets.proofs.LentRows.{rows-length, rows-stored}
 use Rattle.theory.specs.Pairings.{at, Seated, Pairing}
 use Rattle.theory.proofs.Places.{not-mate, at-same, at-other, stored, size-more, size-same}
 use Rattle.theory.proofs.PairingSteps.{pairing-put}
 use Rattle.pairing.specs.Asking.{Inside, unasked, Index, Shut, Asks, Grown, Taken, Stuck, OfValue, OfRow}
+
+-- ---- the set of the rows asked, as the words of one row
+
+pub asked-there : (ws : List ℕ) → length ws ≡ rowWords → 0 < length (rowsOf ws)
+asked-there ws e = let one : length (rowsOf ws) ≡ 1 = rows-length ws ∙ ap (λ (n : ℕ). n / rowWords) e in omega arith
+
+pub asked-stored : (ws ws′ : List ℕ) (r : Row) → ws′ ≡ putRow ws 0 (bits r) → length ws ≡ rowWords → at (rowsOf ws′) 0 ≡ bits r
+asked-stored ws ws′ r e long =
+    let there = asked-there ws long in
+    ap (λ (l : List ℕ). at l 0) (rows-stored ws ws′ 0 r e there .1) ∙ at-same (rowsOf ws) 0 (bits r) there
 
 -- ---- the number that falls
 
@@ -66,7 +75,7 @@ unasked-falls (suc n) a b i h f t sub = elim (ℕ-discrete i n) [
 
 module _ {v : ℕ} {rows columns : List ℕ} {heavy : ℕ} {p : List ℕ} (A : Asks v rows columns heavy p) (i : ℕ) (h : i < length rows)
     (holds : has (at rows i) v ≡ true) where
-  P : Pairing mostValues rows p
+  P : Pairing width rows p
   P = A .pairing
 
   hp : i < length p
@@ -76,9 +85,9 @@ module _ {v : ℕ} {rows columns : List ℕ} {heavy : ℕ} {p : List ℕ} (A : A
   p₁ : List ℕ
   p₁ = set p i (suc v)
 
-  P₁ : Pairing mostValues rows p₁
+  P₁ : Pairing width rows p₁
   unfolding p₁
-  P₁ = pairing-put mostValues rows p i v P hp (A .small, holds) (A .new)
+  P₁ = pairing-put width rows p i v P hp (A .small, holds) (A .new)
 
   seated₁ : Seated p₁ v
   unfolding p₁
@@ -195,17 +204,14 @@ module _ {v : ℕ} {rows columns : List ℕ} {heavy : ℕ} {p : List ℕ} (A : A
 
 -- The rows that hold v are asked, or in `left`; the pairing is as it was, and the rows asked in between are taken.
 pub record Turn (v : ℕ) (rows p : List ℕ) (asked : ℕ) (p′ : List ℕ) (asked′ left : ℕ) : Type 0 where
-  pub word : left < 2 ^ wordBits
   pub more : Inside asked asked′
   pub stuck : Stuck rows p asked p′ asked′
   pub remain : (i : ℕ) → has (at rows i) v ≡ true → (has asked′ i ≡ true) ⊎ (has left i ≡ true)
   pub inside : (i : ℕ) → has left i ≡ true → i < length rows
 
 module _ {v : ℕ} {rows p : List ℕ} {asked : ℕ} where
-  pub turn-start : {columns : List ℕ} {heavy : ℕ} → Index rows columns heavy → bitOr (at columns v) heavy < 2 ^ wordBits
-      → Turn v rows p asked p asked (bitOr (at columns v) heavy)
-  turn-start X word = record {
-    word = word;
+  pub turn-start : {columns : List ℕ} {heavy : ℕ} → Index rows columns heavy → Turn v rows p asked p asked (bitOr (at columns v) heavy)
+  turn-start X = record {
     more = λ i t. t;
     stuck = record { still = refl; closed = λ i t n. absurd (not-both t n) };
     remain = λ i t. inr (X .complete i v t);
@@ -213,17 +219,6 @@ module _ {v : ℕ} {rows p : List ℕ} {asked : ℕ} where
   }
 
   module _ {p′ : List ℕ} {asked′ left : ℕ} (T : Turn v rows p asked p′ asked′ left) where
-    -- what `top` says of the rows left to ask, which are `some`
-    module _ {some r : ℕ} (is : some ≡ minus left asked′) (top : r ≡ wordBits - leadingZeros wordBits some) where
-      word : some < 2 ^ wordBits
-      word = subst (λ (x : ℕ). x < 2 ^ wordBits) (sym is) (minus-word wordBits left asked′ (T .word))
-
-      pub turn-next : r ≢ zero → (r - 1 < wordBits) × (has (minus left asked′) (r - 1) ≡ true)
-      turn-next ne = let t = top-has wordBits some r word top ne in (t .0, ap (λ (x : ℕ). has x (r - 1)) (sym is) ∙ t .1)
-
-      pub turn-none : r ≡ zero → minus left asked′ ≡ zero
-      turn-none z = sym is ∙ top-none wordBits some r word top z
-
     -- no row is left to ask
     pub turn-end : minus left asked′ ≡ zero → OfValue false v rows p asked p′ asked′
     turn-end none = record {
@@ -245,9 +240,9 @@ module _ {v : ℕ} {rows p : List ℕ} {asked : ℕ} where
       turn-less = without-less left i (minus-out left asked′ i next .0)
 
       -- the number that falls
-      pub turn-falls : length rows ≤ wordBits → unasked wordBits (bitOr asked′ (single i)) < unasked wordBits asked
+      pub turn-falls : length rows ≤ width → unasked width (bitOr asked′ (single i)) < unasked width asked
       turn-falls few =
-          unasked-falls wordBits asked (bitOr asked′ (single i)) i (omega (arith, turn-row))
+          unasked-falls width asked (bitOr asked′ (single i)) i (omega (arith, turn-row))
           (is-false (has asked i) (λ t. not-both (T .more i t) unasked-yet))
           (with-new asked′ i)
           (λ j t. with-old asked′ i j (T .more j t))
@@ -261,7 +256,6 @@ module _ {v : ℕ} {rows p : List ℕ} {asked : ℕ} where
       -- row i does not hold v
       pub turn-pass : has (at rows i) v ≡ false → Turn v rows p asked p′ asked′ (minus left (single i))
       turn-pass n = record {
-        word = minus-word wordBits left (single i) (T .word);
         more = T .more;
         stuck = T .stuck;
         remain = λ j t. elim (T .remain j t) [
@@ -284,7 +278,6 @@ module _ {v : ℕ} {rows p : List ℕ} {asked : ℕ} where
         -- row i has not
         pub turn-again : r ≡ false → Turn v rows p asked p″ asked″ (minus left (single i))
         turn-again f = record {
-          word = minus-word wordBits left (single i) (T .word);
           more = λ j e. later j (T .more j e);
           stuck = record { still = O .stuck f .still ∙ T .stuck .still; closed = closed };
           remain = λ j t. elim (T .remain j t) [

@@ -1,21 +1,16 @@
 -- Rows go into the columns of their values, and the index stays complete. Assumes nothing.
-use Prim.Native.Nat.{ℕ, zero, _^_, _<_}
+use Prim.Native.Nat.{ℕ, zero, _<_}
 use mathlib.Core.Path.{_≡_, refl, sym, ap, _∙_, subst}
-use mathlib.Core.Logic.{_≢_, _⊎_, inl, inr}
+use mathlib.Core.Logic.{_⊎_, inl, inr}
 use mathlib.Core.Bool.{true}
 use mathlib.Core.List.{List}
 use native.Mathlib.Omega.{arith}
 use lib.Bits.{bitOr}
-use lib.Count.{trailingZeros}
 use lib.ListN.{length, set, length-set}
 use borrow.Author.Tests.{eqb-true}
-use Rattle.sets.specs.Limits.{mostValues, wordBits}
 use Rattle.sets.specs.Sets.{has, single, minus}
 use Rattle.sets.proofs.Bools.{true-or-false, not-both, or-cases, or-left, or-right}
-use Rattle.sets.proofs.Extremes.{lowest-has}
-use Rattle.sets.proofs.Subsets.{without-less}
 use Rattle.sets.proofs.Values.{has-empty, has-or, has-single, with-old, with-new, with-cases, minus-in, minus-out}
-use Rattle.sets.proofs.ValuesBelow.{minus-word}
 use Rattle.theory.specs.Pairings.{at}
 use Rattle.theory.proofs.Places.{stored, at-same}
 use Rattle.pairing.specs.Asking.{Index}
@@ -32,15 +27,14 @@ left-or-same a v u h = elim (true-or-false (has (single v) u)) [
 
 -- row i stands in the columns of its values, but for those in `left`
 pub record Entering (row i : ℕ) (columns columns′ : List ℕ) (left : ℕ) : Type 0 where
-  pub word : left < 2 ^ wordBits
   pub wide : length columns′ ≡ length columns
   pub new : (v : ℕ) → has row v ≡ true → (has left v ≡ true) ⊎ (has (at columns′ v) i ≡ true)
   pub old : (j v : ℕ) → has (at columns v) j ≡ true → has (at columns′ v) j ≡ true
   pub from : (j v : ℕ) → has (at columns′ v) j ≡ true → (j ≡ i) ⊎ (has (at columns v) j ≡ true)
 
 module _ {row i : ℕ} {columns : List ℕ} where
-  pub enter-start : row < 2 ^ wordBits → Entering row i columns columns row
-  enter-start word = record { word = word; wide = refl; new = λ v t. inl t; old = λ j v t. t; from = λ j v t. inr t }
+  pub enter-start : Entering row i columns columns row
+  enter-start = record { wide = refl; new = λ v t. inl t; old = λ j v t. t; from = λ j v t. inr t }
 
   module _ {columns′ : List ℕ} {left : ℕ} (E : Entering row i columns columns′ left) where
     pub enter-end : left ≡ zero → Entered row i columns columns′
@@ -52,60 +46,48 @@ module _ {row i : ℕ} {columns : List ℕ} where
     }
 
     -- v is the next value
-    module _ {v : ℕ} (is : v ≡ trailingZeros wordBits left) (ne : left ≢ zero) where
-      lowest : (v < wordBits) × (has left v ≡ true)
-      lowest = subst (λ (x : ℕ). (x < wordBits) × (has left x ≡ true)) (sym is) (lowest-has wordBits left (E .word) ne)
+    next : (v : ℕ) → v < length columns′
+        → Entering row i columns (set columns′ v (bitOr (at columns′ v) (single i))) (minus left (single v))
+    next v inside = record {
+      wide = length-set columns′ v more ∙ E .wide;
+      new = λ u t. elim (E .new u t) [
+        | inr c ↦ inr (kept i u c)
+        | inl l ↦ elim (left-or-same left v u l) [
+          | inl s ↦ inr (ap (λ (x : ℕ). has (at columns″ x) i) s ∙ ap (λ (x : ℕ). has x i) put ∙ with-new (at columns′ v) i)
+          | inr m ↦ inl m
+        ]
+      ];
+      old = λ j u t. kept j u (E .old j u t);
+      from = λ j u t. elim (stored columns′ v more u inside) [
+        | inl s ↦ elim (with-cases (at columns′ v) i j (ap (λ (x : ℕ). has x j) (sym (s .1)) ∙ t)) [
+          | inl e ↦ inl e
+          | inr h ↦ E .from j u (ap (λ (x : ℕ). has (at columns′ x) j) (s .0) ∙ h)
+        ]
+        | inr s ↦ E .from j u (ap (λ (x : ℕ). has x j) (sym (s .1)) ∙ t)
+      ];
+    }
+      where
+        more : ℕ
+        more = bitOr (at columns′ v) (single i)
 
-      pub enter-small : v < wordBits
-      enter-small = lowest .0
+        columns″ : List ℕ
+        columns″ = set columns′ v more
 
-      left-now : (rest : ℕ) → rest ≡ minus left (single (trailingZeros wordBits left)) → rest ≡ minus left (single v)
-      left-now rest e = e ∙ ap (λ (x : ℕ). minus left (single x)) (sym is)
+        put : at columns″ v ≡ more
+        put = at-same columns′ v more inside
 
-      pub enter-less : (rest : ℕ) → rest ≡ minus left (single (trailingZeros wordBits left)) → rest < left
-      enter-less rest e = omega (arith, left-now rest e, without-less left v (lowest .1))
+        kept : (j u : ℕ) → has (at columns′ u) j ≡ true → has (at columns″ u) j ≡ true
+        kept j u t = elim (stored columns′ v more u inside) [
+          | inl s ↦ ap (λ (x : ℕ). has x j) (s .1) ∙ with-old (at columns′ v) i j (ap (λ (x : ℕ). has (at columns′ x) j) (sym (s .0)) ∙ t)
+          | inr s ↦ ap (λ (x : ℕ). has x j) (s .1) ∙ t
+        ]
 
-      next : length columns ≡ mostValues → Entering row i columns (set columns′ v (bitOr (at columns′ v) (single i))) (minus left (single v))
-      next wide = record {
-        word = minus-word wordBits left (single v) (E .word);
-        wide = length-set columns′ v (bitOr (at columns′ v) (single i)) ∙ E .wide;
-        new = λ u t. elim (E .new u t) [
-          | inr c ↦ inr (kept i u c)
-          | inl l ↦ elim (left-or-same left v u l) [
-            | inl s ↦ inr (ap (λ (x : ℕ). has (at columns″ x) i) s ∙ ap (λ (x : ℕ). has x i) put ∙ with-new (at columns′ v) i)
-            | inr m ↦ inl m
-          ]
-        ];
-        old = λ j u t. kept j u (E .old j u t);
-        from = λ j u t. elim (stored columns′ v (bitOr (at columns′ v) (single i)) u inside) [
-          | inl s ↦ elim (with-cases (at columns′ v) i j (ap (λ (x : ℕ). has x j) (sym (s .1)) ∙ t)) [
-            | inl e ↦ inl e
-            | inr h ↦ E .from j u (ap (λ (x : ℕ). has (at columns′ x) j) (s .0) ∙ h)
-          ]
-          | inr s ↦ E .from j u (ap (λ (x : ℕ). has x j) (sym (s .1)) ∙ t)
-        ];
-      }
-        where
-          columns″ : List ℕ
-          columns″ = set columns′ v (bitOr (at columns′ v) (single i))
-
-          inside : v < length columns′
-          inside = omega (arith, enter-small, E .wide, wide)
-
-          put : at columns″ v ≡ bitOr (at columns′ v) (single i)
-          put = at-same columns′ v (bitOr (at columns′ v) (single i)) inside
-
-          kept : (j u : ℕ) → has (at columns′ u) j ≡ true → has (at columns″ u) j ≡ true
-          kept j u t = elim (stored columns′ v (bitOr (at columns′ v) (single i)) u inside) [
-            | inl s ↦ ap (λ (x : ℕ). has x j) (s .1) ∙ with-old (at columns′ v) i j (ap (λ (x : ℕ). has (at columns′ x) j) (sym (s .0)) ∙ t)
-            | inr s ↦ ap (λ (x : ℕ). has x j) (s .1) ∙ t
-          ]
-
-      pub enter-next : length columns ≡ mostValues → (rest put : ℕ) → rest ≡ minus left (single (trailingZeros wordBits left))
-          → put ≡ bitOr (at columns′ v) (single i) → Entering row i columns (set columns′ v put) rest
-      enter-next wide rest put e f =
-          subst (Entering row i columns (set columns′ v put)) (sym (left-now rest e))
-          (subst (λ (x : ℕ). Entering row i columns (set columns′ v x) (minus left (single v))) (sym f) (next wide))
+    -- the same of what the code has in hand
+    pub enter-next : (v : ℕ) → v < length columns′ → {rest put : ℕ} {columns″ : List ℕ} → rest ≡ minus left (single v)
+        → put ≡ bitOr (at columns′ v) (single i) → columns″ ≡ set columns′ v put → Entering row i columns columns″ rest
+    enter-next v inside {columns″ = columns″} e f g =
+        subst (Entering row i columns columns″) (sym e)
+        (subst (λ (l : List ℕ). Entering row i columns l (minus left (single v))) (sym (g ∙ ap (set columns′ v) f)) (next v inside))
 
 -- ---- the index
 

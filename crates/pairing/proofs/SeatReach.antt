@@ -22,11 +22,11 @@ pub record Reaching (asked : ℕ) (p : List ℕ) (dead next : ℕ) : Type 0 wher
   pub all : (i u : ℕ) → i < next → at p i ≡ suc u → has asked i ≡ false → has dead u ≡ true
   pub only : (u : ℕ) → has dead u ≡ true → (i : ℕ) × (at p i ≡ suc u) × (has asked i ≡ false)
 
-module _ (asked : ℕ) (p : List ℕ) where
+module _ {asked : ℕ} {p : List ℕ} where
   pub reach-start : Reaching asked p zero zero
   reach-start = record { inside = omega arith; all = λ i u h. absurd (not-suc-le-zero h); only = λ u t. absurd (not-both t (has-empty u)) }
 
-  module _ (dead next : ℕ) (R : Reaching asked p dead next) where
+  module _ {dead next : ℕ} (R : Reaching asked p dead next) where
     pub reach-end : length p ≤ next → Unreached asked p dead
     reach-end h = record { all = λ i u e n. R .all i u (omega (arith, at-less p i u e)) e n; only = R .only }
 
@@ -42,7 +42,8 @@ module _ (asked : ℕ) (p : List ℕ) where
     }
 
     -- row `next` has the mate w and was not asked
-    pub reach-more : next < length p → at p next ≢ zero → has asked next ≡ false → Reaching asked p (bitOr dead (single (at p next - 1))) (next + 1)
+    pub reach-more : next < length p → at p next ≢ zero → has asked next ≡ false
+        → Reaching asked p (bitOr dead (single (at p next - 1))) (next + 1)
     reach-more h some n = record {
       inside = omega arith;
       all = λ i u l e m. elim (ℕ-discrete i next) [

@@ -10,8 +10,8 @@ use native.Mathlib.Omega.{arith}
 use lib.Bits.{bitOr}
 use lib.ListN.{length, length-append, List·getD-append}
 use lib.Seq.{getD-append-seam}
-use Rattle.sets.specs.Limits.{mostValues}
 use Rattle.sets.specs.Sets.{has, single}
+use Rattle.sets.specs.Rows.{width}
 use Rattle.sets.proofs.Bools.{not-both, or-cases, or-left, or-right}
 use Rattle.sets.proofs.Values.{has-empty, has-or, with-old, with-new, with-cases}
 use Rattle.theory.specs.Pairings.{size, at, Seated, Pairing}
@@ -78,14 +78,14 @@ module _ (R : List ℕ) (row : ℕ) where
   pub holds-before : (i v : ℕ) → has (at R i) v ≡ true → has (at (R ++ row ∷ []) i) v ≡ true
   holds-before i v t = ap (λ (r : ℕ). has r v) (row-before i (holds-inside i v t)) ∙ t
 
-  pub pairing-open : (p : List ℕ) → Pairing mostValues R p → Pairing mostValues (R ++ row ∷ []) (p ++ zero ∷ [])
+  pub pairing-open : (p : List ℕ) → Pairing width R p → Pairing width (R ++ row ∷ []) (p ++ zero ∷ [])
   pairing-open p P = record {
     fits = length-snoc p zero ∙ ap suc (P .fits) ∙ sym (length-snoc R row);
     holds = λ i v e. let k = P .holds i v (sym (at-open p i) ∙ e) in (k .0, holds-before i v (k .1));
     apart = λ i j v e f. P .apart i j v (sym (at-open p i) ∙ e) (sym (at-open p j) ∙ f);
   }
 
-  pub shut-open : (p : List ℕ) (dead : ℕ) → Pairing mostValues R p → Shut R p dead → Shut (R ++ row ∷ []) (p ++ zero ∷ []) dead
+  pub shut-open : (p : List ℕ) (dead : ℕ) → Pairing width R p → Shut R p dead → Shut (R ++ row ∷ []) (p ++ zero ∷ []) dead
   shut-open p dead P S u t =
       let k = S u t in
       let inside : k .0 < length R = omega (arith, at-less p (k .0) u (k .1), P .fits) in

@@ -6,15 +6,15 @@ use mathlib.Core.Bool.{Bool, true, false}
 use mathlib.Core.List.{List, [], _∷_, _++_}
 use lib.Bits.{bitAnd, bitOr}
 use lib.ListN.{length, take}
-use Rattle.sets.specs.Limits.{mostValues}
 use Rattle.sets.specs.Sets.{has, single, minus}
+use Rattle.sets.specs.Rows.{width, bits}
 use Rattle.theory.specs.Pairings.{size, at, Seated, Pairing}
 use Rattle.pairing.specs.declared.seats.Seats.{Seats}
 use Rattle.pairing.specs.Asking.{Inside, Index, Shut}
 
 -- how many seats there are: as many as a column can have values, for a row that sits has a value of its own
 abbrev pub seats : ℕ
-seats = mostValues
+seats = width
 
 -- row i stands in the columns of its values now, and else they are as they were
 pub record Entered (row i : ℕ) (columns columns′ : List ℕ) : Type 0 where
@@ -26,7 +26,7 @@ pub record Entered (row i : ℕ) (columns columns′ : List ℕ) : Type 0 where
 -- the mates of rows on seats: a mate is 0, or one more than a value
 pub record Mates (p : List ℕ) : Type 0 where
   pub few : length p ≤ seats
-  pub small : (i : ℕ) → at p i ≤ mostValues
+  pub small : (i : ℕ) → at p i ≤ width
 
 -- r is the set of the mates of the rows that were not asked
 pub record Unreached (asked : ℕ) (p : List ℕ) (r : ℕ) : Type 0 where
@@ -40,15 +40,15 @@ Below d row = (v : ℕ) → has row v ≡ true → v < d
 -- The rows R on the seats have the mates p, each row one: a pairing that uses them all.
 pub record Bench (s : Seats) (R columns p : List ℕ) : Type 0 where
   pub used : length R ≡ s .used
-  pub column : s .d ≤ mostValues
-  pub pairing : Pairing mostValues R p
+  pub column : s .d ≤ width
+  pub pairing : Pairing width R p
   pub full : size p ≡ length R
   pub small : (i : ℕ) → Below (s .d) (at R i)
-  pub new : (v : ℕ) → has (s .free) v ≡ true → (v < s .d) × (Seated p v → ⊥)
-  pub free : (v : ℕ) → v < s .d → (Seated p v → ⊥) → has (s .free) v ≡ true
-  pub shut : Shut R p (s .dead)
-  pub fresh : (i v : ℕ) → has (at R i) v ≡ true → has (s .fresh) v ≡ false
-  pub index : Index R columns (s .heavy)
+  pub new : (v : ℕ) → has (bits (s .free)) v ≡ true → (v < s .d) × (Seated p v → ⊥)
+  pub free : (v : ℕ) → v < s .d → (Seated p v → ⊥) → has (bits (s .free)) v ≡ true
+  pub shut : Shut R p (bits (s .dead))
+  pub fresh : (i v : ℕ) → has (at R i) v ≡ true → has (bits (s .fresh)) v ≡ false
+  pub index : Index R columns (bits (s .heavy))
 
 -- the seats in use are the first
 pub record Sitting (s : Seats) (rows columns mates : List ℕ) : Type 0 where
@@ -61,26 +61,24 @@ pub record Sitting (s : Seats) (rows columns mates : List ℕ) : Type 0 where
 pub record Seeks (row : ℕ) (s : Seats) (rows columns mates : List ℕ) : Type 0 where
   pub sits : Sitting s rows columns mates
   pub low : Below (s .d) row
-  pub apart : bitAnd row (s .free) ≡ zero
+  pub apart : bitAnd row (bits (s .free)) ≡ zero
   pub room : s .used < seats
 
--- v has got a row, and the new row a seat
-abbrev pub taking : Seats → ℕ → ℕ → Seats
-taking s row v = record {
-  d = s .d;
-  used = s .used + 1;
-  entered = s .entered;
-  free = minus (s .free) (single v);
-  dead = s .dead;
-  fresh = minus (s .fresh) row;
-  heavy = bitOr (s .heavy) (single (s .used));
-}
+-- the seats are s′ now that v has got a row, and the new row a seat
+pub record Taking (s : Seats) (row v : ℕ) (s′ : Seats) : Type 0 where
+  pub d : s′ .d ≡ s .d
+  pub used : s′ .used ≡ s .used + 1
+  pub entered : s′ .entered ≡ s .entered
+  pub free : bits (s′ .free) ≡ minus (bits (s .free)) (single v)
+  pub dead : bits (s′ .dead) ≡ bits (s .dead)
+  pub fresh : bits (s′ .fresh) ≡ minus (bits (s .fresh)) row
+  pub heavy : bits (s′ .heavy) ≡ bitOr (bits (s .heavy)) (single (s .used))
 
 -- the row has got no seat: it holds dead values only, or no value is free
 pub record Passed (row : ℕ) (s : Seats) (rows : List ℕ) (s′ : Seats) (rows′ : List ℕ) : Type 0 where
   pub used : s′ .used ≡ s .used
   pub rows-kept : take (s .used) rows′ ≡ take (s .used) rows
-  pub why : Inside row (s′ .dead) ⊎ (s′ .free ≡ zero)
+  pub why : Inside row (bits (s′ .dead)) ⊎ (bits (s′ .free) ≡ zero)
 
 -- the row has got the next seat
 pub record Raised (row : ℕ) (s : Seats) (rows : List ℕ) (s′ : Seats) (rows′ : List ℕ) : Type 0 where

@@ -1,35 +1,39 @@
-// The search for a larger pairing. rows[i] is a set of values; mates[i] is 0, or v + 1 where row i is paired with the value v.
-// The question passes from value to row and from row to value, and no row is asked twice: `asked` is the set of rows asked so far.
+// The search for a larger pairing. Row i of `rows` is a set of values; mates[i] is 0, or v + 1 where row i is paired with the value v.
+// The question passes from value to row and from row to value, and no row is asked twice: `asked` holds one set, the rows asked so far.
 ghost use mathlib.Core.Path.{_≡_};
 ghost use mathlib.Core.Bool.{true};
 ghost use Prim.Native.Nat.{_<_};
 ghost use lib.ListN.{length};
 ghost use Rattle.sets.specs.Sets.{has};
+ghost use Rattle.sets.specs.Rows.{bits, rowsOf};
 ghost use Rattle.theory.specs.Pairings.{at};
 ghost use Rattle.pairing.specs.Asking.{Asks, Searches, OfValue, OfRow, OfSearch};
+use sets::Row;
 
 // The value v, which has no row, asks the rows that hold it and are not asked yet, the last first. True where it has got one.
 pub fn ask_value(
     v: usize,
     rows: &[u64],
     columns: &[u64],
-    heavy: u64,
+    heavy: Row,
     mates: &mut [usize],
-    asked: &mut u64,
+    asked: &mut [u64; sets::WORDS],
 ) -> bool
-    requires { ⌜ Asks v (now rows) (now columns) heavy (now mates) ⌝ }
-    ensures { λ r. ⌜ OfValue r v (now (rows .entry)) (now (mates .entry)) (now (asked .entry)) (now (mates .exit)) (now (asked .exit)) ⌝ }
+    requires { ⌜ Asks v (rowsOf (now rows)) (rowsOf (now columns)) (bits heavy) (now mates) ⌝ }
+    ensures { λ r. ⌜ OfValue r v (rowsOf (now (rows .entry))) (now (mates .entry)) (at (rowsOf (now (asked .entry))) 0)
+        (now (mates .exit)) (at (rowsOf (now (asked .exit))) 0) ⌝ }
 {
-    let mut left = columns[v] | heavy;
+    let mut left = sets::either(sets::row_at(columns, v), heavy);
     loop {
-        let next = sets::top(sets::minus(left, *asked));
+        let next = sets::top(sets::minus(left, sets::row_at(asked, 0)));
         if next == 0 {
             return false;
         }
         let i = next - 1;
         left = sets::without(left, i);
-        if sets::has(rows[i], v) {
-            *asked = sets::with(*asked, i);
+        if sets::has(sets::row_at(rows, i), v) {
+            let more = sets::with(sets::row_at(asked, 0), i);
+            sets::put_row(asked, 0, more);
             if ask_row(i, v, rows, columns, heavy, mates, asked) {
                 return true;
             }
@@ -44,13 +48,14 @@ pub fn ask_row(
     v: usize,
     rows: &[u64],
     columns: &[u64],
-    heavy: u64,
+    heavy: Row,
     mates: &mut [usize],
-    asked: &mut u64,
+    asked: &mut [u64; sets::WORDS],
 ) -> bool
-    requires { ⌜ Asks v (now rows) (now columns) heavy (now mates) ⌝ }
-    requires { ⌜ (i < length (now rows)) × (has (at (now rows) i) v ≡ true) × (has (now asked) i ≡ true) ⌝ }
-    ensures { λ r. ⌜ OfRow r i v (now (rows .entry)) (now (mates .entry)) (now (asked .entry)) (now (mates .exit)) (now (asked .exit)) ⌝ }
+    requires { ⌜ Asks v (rowsOf (now rows)) (rowsOf (now columns)) (bits heavy) (now mates) ⌝ }
+    requires { ⌜ (i < length (rowsOf (now rows))) × (has (at (rowsOf (now rows)) i) v ≡ true) × (has (at (rowsOf (now asked)) 0) i ≡ true) ⌝ }
+    ensures { λ r. ⌜ OfRow r i v (rowsOf (now (rows .entry))) (now (mates .entry)) (at (rowsOf (now (asked .entry))) 0)
+        (now (mates .exit)) (at (rowsOf (now (asked .exit))) 0) ⌝ }
 {
     let w = mates[i];
     mates[i] = v + 1;
@@ -64,23 +69,24 @@ pub fn ask_row(
     false
 }
 
-// The values of `free`, which have no rows, ask one after another until one has got a row. Answers that value, or `sets::BITS`,
+// The values of `free`, which have no rows, ask one after another until one has got a row. Answers that value, or `sets::VALUES`,
 // which is no value; `asked` starts empty.
 pub fn search(
-    free: u64,
+    free: Row,
     rows: &[u64],
     columns: &[u64],
-    heavy: u64,
+    heavy: Row,
     mates: &mut [usize],
-    asked: &mut u64,
+    asked: &mut [u64; sets::WORDS],
 ) -> usize
-    requires { ⌜ Searches free (now rows) (now columns) heavy (now mates) × (now asked ≡ 0) ⌝ }
-    ensures { λ r. ⌜ OfSearch r free (now (rows .entry)) (now (mates .entry)) (now (mates .exit)) (now (asked .exit)) ⌝ }
+    requires { ⌜ Searches (bits free) (rowsOf (now rows)) (rowsOf (now columns)) (bits heavy) (now mates) × (at (rowsOf (now asked)) 0 ≡ 0) ⌝ }
+    ensures { λ r. ⌜ OfSearch r (bits free) (rowsOf (now (rows .entry))) (now (mates .entry)) (now (mates .exit))
+        (at (rowsOf (now (asked .exit))) 0) ⌝ }
 {
     let mut left = free;
     loop {
-        if left == 0 {
-            return sets::BITS;
+        if sets::is_empty(left) {
+            return sets::VALUES;
         }
         let v = sets::lowest(left);
         left = sets::rest(left);

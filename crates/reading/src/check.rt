@@ -1,7 +1,7 @@
 // One file through `read` and through the reader.
 ghost use Prim.Native.Nat.{_≤_};
 use files::Lesson;
-use files::Row;
+use files::NextRow;
 use show::say;
 use show::text;
 
@@ -60,10 +60,10 @@ fn list_right(list: &[u64; PLACES], refusal: u64, cells: &[u64]) -> bool {
     true
 }
 
-fn is_cell(row: Row, cell: u64) -> bool {
+fn is_cell(row: NextRow, cell: u64) -> bool {
     match row {
-        Row::Cell(set) => set == cell,
-        Row::NoMore => false,
+        NextRow::Cell(row) => sets::as_word(row) == cell,
+        NextRow::NoMore => false,
     }
 }
 
@@ -73,8 +73,8 @@ fn no_more(file: &[u8], at: usize) -> bool {
     let row = step.row;
     let stays = step.next == at;
     match row {
-        Row::Cell(_) => false,
-        Row::NoMore => stays,
+        NextRow::Cell(_) => false,
+        NextRow::NoMore => stays,
     }
 }
 

@@ -1,5 +1,6 @@
 // Refusals 1 and 2: whether a table may be lent.
 ghost use mathlib.Core.Path.{_≡_};
+ghost use Rattle.sets.specs.Rows.{rowsOf};
 ghost use Rattle.refusals.specs.declared.tables.Judged.the-variants.{Right, Refused};
 ghost use Rattle.refusals.specs.Cases.{decided};
 ghost use Rattle.refusals.specs.TableCases.{tableCases};
@@ -15,7 +16,7 @@ pub enum Judged {
 
 // `most` is how many rows the table may have.
 pub fn judge(table: &[u64], d: usize, most: usize) -> Judged
-    ensures { λ r. ⌜ r ≡ decided Refused (tableCases most d (now (table .entry))) Right ⌝ }
+    ensures { λ r. ⌜ r ≡ decided Refused (tableCases most d (rowsOf (now (table .entry)))) Right ⌝ }
 {
     if d == 0 {
         return Judged::Refused(Refusal::TooLarge);
@@ -23,7 +24,7 @@ pub fn judge(table: &[u64], d: usize, most: usize) -> Judged
     if Sheet::VALUES < d {
         return Judged::Refused(Refusal::TooLarge);
     }
-    if most < table.len() {
+    if most < sets::row_count(table) {
         return Judged::Refused(Refusal::TooLarge);
     }
     let bad = sets::bad_row(table, d);

@@ -8,6 +8,7 @@ use denote.Ref.{now}
 use denote.Triple.Entry.{Args, Res}
 use denote.Triple.Clauses.{AtExit}
 use Rattle.walks.proofs.Public.{Public, Contract}
+use Rattle.sets.specs.Rows.{rowsOf}
 use Rattle.store.specs.declared.Reply.{Reply}
 use Rattle.store.specs.Calls.{answered, sheetAfter, told}
 use Rattle.server.proofs.alter as alter
@@ -17,9 +18,9 @@ use Rattle.server.proofs.altered.Reads as altered
 -- what `alter` ensures of its arguments (the sheet, the table, d, the desk, the call, the list), its answer, and what it lent
 abbrev pub Alters : (κs : Lfts 3) → Args alter.signature κs → Res alter.signature κs → AtExit alter.ended κs → Type 0
 Alters κs (s, (table, (d, (desk, (call, (list, _)))))) r (s′, (table′, (d′, (desk′, (call′, (list′, _)))))) =
-    (r ≡ answered d (now table) (now s) desk call (length (now list)))
-    × (now s′ ≡ sheetAfter d (now table) (now s) desk call (length (now list)))
-    × (now list′ ≡ told d (now table) (now s) desk call (now list) .list)
+    (r ≡ answered d (rowsOf (now table)) (now s) desk call (length (now list)))
+    × (now s′ ≡ sheetAfter d (rowsOf (now table)) (now s) desk call (length (now list)))
+    × (now list′ ≡ told d (rowsOf (now table)) (now s) desk call (now list) .list)
 
 pub alter-contract : Contract alter.ended (λ M 𝓤. alter.clauses 𝓤) Alters
 alter-contract = record { is = λ M 𝓤 H A mem run κs a. refl }

@@ -8,6 +8,7 @@ use denote.Ref.{now}
 use denote.Triple.Entry.{Args}
 use denote.Triple.Clauses.{AtExit}
 use Rattle.sheet.specs.declared.Sheet.{Sheet}
+use Rattle.sets.specs.Rows.{rowsOf}
 use Rattle.store.specs.declared.Answer.{Answer}
 use Rattle.store.specs.Desks.{Told}
 use Rattle.store.specs.Promise.{Turn, sheetOn, classStore}
@@ -24,7 +25,7 @@ module _ (d : ℕ) (table : List ℕ) (desks : ℕ) where
     pub answer : Answer
     pub exit : AtExit alter.ended κs
     pub admitted : Alters κs args answer exit
-    pub lends : (now (args .1 .0) ≡ table) × (args .1 .1 .0 ≡ d) × (now (args .0) ≡ s)
+    pub lends : (rowsOf (now (args .1 .0)) ≡ table) × (args .1 .1 .0 ≡ d) × (now (args .0) ≡ s)
     pub asks : (args .1 .1 .1 .0 ≡ t .desk) × (args .1 .1 .1 .1 .0 ≡ t .call) × (now (args .1 .1 .1 .1 .1 .0) ≡ t .list)
     pub tells : o ≡ record { answer = answer; list = now (exit .1 .1 .1 .1 .1 .0) }
     pub leaves : s′ ≡ now (exit .0)

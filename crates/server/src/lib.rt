@@ -1,6 +1,7 @@
 // For the class server, which holds a single sheet: a desk's call that alters it in place.
 ghost use mathlib.Core.Path.{_≡_};
 ghost use lib.ListN.{length};
+ghost use Rattle.sets.specs.Rows.{rowsOf};
 ghost use Rattle.store.specs.Calls.{answered, sheetAfter, replied, told};
 use sheet::Sheet;
 use store::Answer;
@@ -16,9 +17,9 @@ pub fn alter(
     call: Call,
     list: &mut [usize],
 ) -> Answer
-    ensures { λ r. ⌜ (r ≡ answered d (now (table .entry)) (now (sheet .entry)) desk call (length (now (list .entry))))
-        × (now (sheet .exit) ≡ sheetAfter d (now (table .entry)) (now (sheet .entry)) desk call (length (now (list .entry))))
-        × (now (list .exit) ≡ told d (now (table .entry)) (now (sheet .entry)) desk call (now (list .entry)) .list) ⌝ }
+    ensures { λ r. ⌜ (r ≡ answered d (rowsOf (now (table .entry))) (now (sheet .entry)) desk call (length (now (list .entry))))
+        × (now (sheet .exit) ≡ sheetAfter d (rowsOf (now (table .entry))) (now (sheet .entry)) desk call (length (now (list .entry))))
+        × (now (list .exit) ≡ told d (rowsOf (now (table .entry))) (now (sheet .entry)) desk call (now (list .entry)) .list) ⌝ }
 {
     let before = *sheet;
     let reply = store::desk_call(table, d, before, desk, call, list);
@@ -35,8 +36,8 @@ pub fn altered(
     call: Call,
     list: &mut [usize],
 ) -> Reply
-    ensures { λ r. ⌜ (r ≡ replied d (now (table .entry)) sheet desk call (length (now (list .entry))))
-        × (now (list .exit) ≡ told d (now (table .entry)) sheet desk call (now (list .entry)) .list) ⌝ }
+    ensures { λ r. ⌜ (r ≡ replied d (rowsOf (now (table .entry))) sheet desk call (length (now (list .entry))))
+        × (now (list .exit) ≡ told d (rowsOf (now (table .entry))) sheet desk call (now (list .entry)) .list) ⌝ }
 {
     let mut held = sheet;
     let answer = alter(&mut held, table, d, desk, call, list);

@@ -1,14 +1,14 @@
 -- Subsets and proper subsets, said by values. Assumes nothing.
-use Prim.Native.Nat.{ℕ, _<_}
+use Prim.Native.Nat.{ℕ, zero, _<_}
 use mathlib.Core.Path.{_≡_, sym, ap, _∙_}
 use mathlib.Core.Logic.{_≢_}
 use mathlib.Core.Bool.{Bool, true, false, not, _&&_}
 use native.Mathlib.Omega.{arith}
-use lib.Bits.{bitAnd, and-le-r}
+use lib.Bits.{bitAnd, bitXor, and-le-l, and-le-r, xor-self, xor-comm, xor-add-and}
 use lib.Dec.{eqb}
 use borrow.Author.Tests.{eqb-true, eqb-false, eq-eqb, ne-eqb, not-true, not-false}
 use Rattle.sets.specs.Sets.{has, single, subset, proper, minus}
-use Rattle.sets.proofs.Bools.{and-left, and-right, and-both, not-both}
+use Rattle.sets.proofs.Bools.{and-left, and-right, and-both, not-both, bool-ext}
 use Rattle.sets.proofs.Values.{has-and, has-same, minus-out, set-antisym}
 
 pub subset-has : (a b : ℕ) → subset a b ≡ true → (v : ℕ) → has a v ≡ true → has b v ≡ true
@@ -60,3 +60,22 @@ without-less a v h =
   where
     other : not (eqb (minus a (single v)) a) ≡ true
     other = ap not (ne-eqb (minus a (single v)) a (λ e. not-both (has-same v) (minus-out a (single v) v (ap (λ (x : ℕ). has x v) e ∙ h) .1)))
+
+-- ---- tests by what is left
+
+-- two sets that differ in no value are equal
+pub xor-empty : (a b : ℕ) → eqb (bitXor a b) zero ≡ eqb a b
+xor-empty a b = bool-ext (eqb (bitXor a b) zero) (eqb a b) same different
+  where
+    same : eqb (bitXor a b) zero ≡ true → eqb a b ≡ true
+    same e =
+        let z : bitXor a b ≡ zero = eqb-true (bitXor a b) zero e in
+        eq-eqb a b (omega (arith, xor-add-and a b, and-le-l a b, and-le-r a b))
+
+    different : eqb a b ≡ true → eqb (bitXor a b) zero ≡ true
+    different e = eq-eqb (bitXor a b) zero (ap (bitXor a) (sym (eqb-true a b e)) ∙ xor-self a)
+
+-- a set is a subset where nothing is left of it
+pub minus-empty : (a b : ℕ) → eqb (minus a b) zero ≡ subset a b
+unfolding minus subset
+minus-empty a b = ap (λ (x : ℕ). eqb x zero) (xor-comm a (bitAnd a b)) ∙ xor-empty (bitAnd a b) a

@@ -11,13 +11,17 @@ use lib.Arith.{bin-ind}
 use lib.Bits.{bitAnd, or-lt}
 use lib.Dec.{eqb}
 use lib.Pow.{pow-mono, pow-pos, ones-lt}
-use borrow.Author.Tests.{ltb-true, eqb-false, eq-eqb, ne-eqb, not-true}
+use borrow.Author.Tests.{lt-ltb, ltb-true, eqb-false, eq-eqb, ne-eqb, not-true}
 use Rattle.sets.specs.Sets.{has, union, subset, minus, below, within}
-use Rattle.sets.proofs.Bools.{and-left, and-right, and-both, true-or-false, not-both}
+use Rattle.sets.proofs.Bools.{and-left, and-right, and-both, true-or-false, not-both, bool-ext}
 use Rattle.sets.proofs.Values.{has-and, has-empty, has-zero, has-suc, minus-in, minus-out, set-ext}
 use Rattle.sets.proofs.Subsets.{subset-has, has-subset}
 
 -- ---- by numbers
+
+pub less-below : (d r : ℕ) → r < 2 ^ d → below d r ≡ true
+unfolding below
+less-below d r h = lt-ltb r (2 ^ d) h
 
 pub below-less : (d r : ℕ) → below d r ≡ true → r < 2 ^ d
 unfolding below
@@ -57,6 +61,16 @@ all-has (suc d) (suc v) h = has-suc (2 ^ suc d - 1) v ∙ ap (λ (x : ℕ). has 
 
 pub has-all : (d v : ℕ) → has (2 ^ d - 1) v ≡ true → v < d
 has-all d v t = has-less d (2 ^ d - 1) v (ones-lt d) t
+
+-- no value d or above: a subset of those below d
+pub below-all : (d r : ℕ) → subset r (2 ^ d - 1) ≡ below d r
+below-all d r = bool-ext (subset r (2 ^ d - 1)) (below d r) inside outside
+  where
+    inside : subset r (2 ^ d - 1) ≡ true → below d r ≡ true
+    inside s = less-below d r (less-has d r (λ v h. has-all d v (subset-has r (2 ^ d - 1) s v h)))
+
+    outside : below d r ≡ true → subset r (2 ^ d - 1) ≡ true
+    outside b = has-subset r (2 ^ d - 1) (λ v h. all-has d v (has-less d r v (below-less d r b) h))
 
 -- ---- a value of a set that is not empty
 

@@ -37,7 +37,8 @@ unfolding shaped
 shape-few s e =
     let numbers = leb 1 (s .d) && leb (s .d) mostValues && leb (s .rows) mostRows && leb 1 (s .desks) in
     let desks = and-left (numbers && leb (s .desks) mostDesks) (leb (s .used) mostPlaces) e in
-    (leb-true (s .used) mostPlaces (and-right (numbers && leb (s .desks) mostDesks) (leb (s .used) mostPlaces) e), leb-true (s .desks) mostDesks (and-right numbers (leb (s .desks) mostDesks) desks))
+    let used = and-right (numbers && leb (s .desks) mostDesks) (leb (s .used) mostPlaces) e in
+    (leb-true (s .used) mostPlaces used, leb-true (s .desks) mostDesks (and-right numbers (leb (s .desks) mostDesks) desks))
 
 -- ---- the tests in turn
 
@@ -76,7 +77,8 @@ module _ {s : Sheet} {r : Bool} {counts : List ℕ} (shape : shaped s ≡ true) 
     check-over e = wrong (places .long) (rw (shape, sym (places .right-is), right, sym over, e) refl)
 
     -- and no desk holds too many
-    module _ (holds : allTo (λ k. leb (at counts k) mostHeld) (s .desks) ≡ true) (owes : ℕ) (sum : owes ≡ sumTo (λ k. promised - at counts k) (s .desks)) where
+    module _ (holds : allTo (λ k. leb (at counts k) mostHeld) (s .desks) ≡ true)
+        (owes : ℕ) (sum : owes ≡ sumTo (λ k. promised - at counts k) (s .desks)) where
       pub check-owed : mostPlaces < s .used + owes → Surveyed sound s false counts
       unfolding sound shared
       check-owed h =
@@ -86,7 +88,8 @@ module _ {s : Sheet} {r : Bool} {counts : List ℕ} (shape : shaped s ≡ true) 
       pub check-marks : s .used + owes ≤ mostPlaces → (b : Bool) → b ≡ markedRight s → Surveyed sound s b counts
       unfolding sound shared
       check-marks h b m = record {
-        right-is = m ∙ sym (rw (shape, sym (places .right-is), right, sym over, holds, sym (sum ∙ owed-counts), le-leb (s .used + owes) mostPlaces h) refl);
+        right-is = m
+            ∙ sym (rw (shape, sym (places .right-is), right, sym over, holds, sym (sum ∙ owed-counts), le-leb (s .used + owes) mostPlaces h) refl);
         counted = λ _ k l. places .counted right k l;
         long = places .long;
       }

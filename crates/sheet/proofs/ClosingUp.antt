@@ -1,4 +1,5 @@
--- The rows at the places that pass, closed up: which they are by place, how 512 places hold them, which of them pass a second test, and the rows of one desk but for some. Assumes nothing.
+-- The rows at the places that pass, closed up: which they are by place, how 512 places hold them, which of them pass a second test,
+-- and the rows of one desk but for some. Assumes nothing.
 use Prim.Native.Nat.{ℕ, zero, suc, _-_, _≤_, _<_}
 use mathlib.Core.Path.{_≡_, refl, ap, _∙_}
 use mathlib.Core.Logic.{inl, inr}
@@ -88,14 +89,21 @@ module _ (K : List ℕ) (x a b c : ℕ) (e : length K ≡ c) (ab : a ≤ b) wher
   last-cut false q u v =
       let h : c < a = leb-false a c u in
       let long : length (K ++ (x ∷ [])) ≡ suc c = simp length-append (omega arith) in
-      rw (take-all a K (omega arith), drop-of-length-le K {i = b} (omega arith), take-all a (K ++ (x ∷ [])) (omega arith), drop-of-length-le (K ++ (x ∷ [])) {i = b} (omega arith))
-      (simp append-nil)
+      rw (
+        take-all a K (omega arith),
+        drop-of-length-le K {i = b} (omega arith),
+        take-all a (K ++ (x ∷ [])) (omega arith),
+        drop-of-length-le (K ++ (x ∷ [])) {i = b} (omega arith),
+      ) (simp append-nil)
   last-cut true true u v =
       let h : a ≤ c = leb-true a c u in
       let k : c < b = ltb-true c b v in
       let long : length (K ++ (x ∷ [])) ≡ suc c = simp length-append (omega arith) in
-      rw (drop-of-length-le K {i = b} (omega arith), take-append-le a K (x ∷ []) (omega arith), drop-of-length-le (K ++ (x ∷ [])) {i = b} (omega arith))
-      (simp append-nil)
+      rw (
+        drop-of-length-le K {i = b} (omega arith),
+        take-append-le a K (x ∷ []) (omega arith),
+        drop-of-length-le (K ++ (x ∷ [])) {i = b} (omega arith),
+      ) (simp append-nil)
   last-cut true false u v =
       let h : a ≤ c = leb-true a c u in
       let k : b ≤ c = ltb-false c b v in
@@ -107,6 +115,8 @@ module _ (g : ℕ → Bool) (rows : List ℕ) (a b : ℕ) (ab : a ≤ b) where
   unfolding those
   those-cut zero = rw (take-nil, drop-nil)
   those-cut (suc n) = elim (true-or-false (g n)) [
-    | inl e ↦ rw (e, those-cut n) (last-cut (those g rows n) (at rows n) a b (countTo g n) (length-those g rows n) ab (leb a (countTo g n)) (ltb (countTo g n) b) refl refl)
+    | inl e ↦
+        (let c = countTo g n in
+        rw (e, those-cut n) (last-cut (those g rows n) (at rows n) a b c (length-those g rows n) ab (leb a c) (ltb c b) refl refl))
     | inr e ↦ simp (e, append-nil) (those-cut n)
   ]

@@ -56,7 +56,8 @@ module _ (desks rows : ℕ) (marks : List ℕ) where
       → false ≡ markedRight (marksOf desks rows marks)
   unfolding markedRight hides
   marked-wrong w r h small may e =
-      sym (all-fails (λ k. allTo (allowed desks rows marks k) mostRows) mostDesks (w / markWords) (omega arith) (all-fails (allowed desks rows marks (w / markWords)) mostRows n (omega (arith, low)) (rw (hid, out) refl)))
+      sym (all-fails (λ k. allTo (allowed desks rows marks k) mostRows) mostDesks (w / markWords) (omega arith)
+      (all-fails (allowed desks rows marks (w / markWords)) mostRows n (omega (arith, low)) (rw (hid, out) refl)))
     where
       found : (v : ℕ) × (has (minus (at marks w) r) v ≡ true)
       found = some-value (minus (at marks w) r) (λ z. not-both (has-subset (at marks w) r (minus-none (at marks w) r z)) e)
@@ -91,14 +92,17 @@ module _ {desks rows : ℕ} {marks : List ℕ} {next : ℕ} (m : Marked desks ro
     where
       before : (w : ℕ) → w < suc next → (v : ℕ) → has (at marks w) v ≡ true → (w / markWords < desks) × (w % markWords * wordBits + v < rows)
       before w h v t = elim (top-or-below next w h) [
-        | inl q ↦ subst (λ (x : ℕ). (x / markWords < desks) × (x % markWords * wordBits + v < rows)) (sym q) (may .only v (subset-has (at marks next) r e v (ap (λ (x : ℕ). has (at marks x) v) (sym q) ∙ t)))
+        | inl q ↦
+            subst (λ (x : ℕ). (x / markWords < desks) × (x % markWords * wordBits + v < rows)) (sym q)
+            (may .only v (subset-has (at marks next) r e v (ap (λ (x : ℕ). has (at marks x) v) (sym q) ∙ t)))
         | inr l ↦ m .before w l v t
       ]
 
   pub marked-all : allMarks ≤ next → true ≡ markedRight (marksOf desks rows marks)
   unfolding markedRight hides
   marked-all h =
-      sym (all-intro (λ k. allTo (allowed desks rows marks k) mostRows) mostDesks (λ k kl. all-intro (allowed desks rows marks k) mostRows (λ n nl. one k kl n nl (true-or-false (hides marks k n)))))
+      sym (all-intro (λ k. allTo (allowed desks rows marks k) mostRows) mostDesks
+      (λ k kl. all-intro (allowed desks rows marks k) mostRows (λ n nl. one k kl n nl (true-or-false (hides marks k n)))))
     where
       one : (k : ℕ) → k < mostDesks → (n : ℕ) → n < mostRows → (hides marks k n ≡ true) ⊎ (hides marks k n ≡ false)
           → allowed desks rows marks k n ≡ true

@@ -12,15 +12,18 @@ use Rattle.sets.specs.Limits.{mostDesks, mostHeld, mostPlaces, mostRows, mostVa
 use Rattle.theory.specs.Pairings.{at}
 use Rattle.theory.proofs.Places.{at-same, at-other, past}
 use Rattle.sets.specs.Sets.{has, within}
+use Rattle.sets.specs.Rows.{rowWords, rowsOf}
 use Rattle.sets.proofs.Bools.{not-both}
 use Rattle.sets.proofs.Values.{has-empty}
+use Rattle.sets.proofs.LentRows.{rows-zero}
 use Rattle.sheet.specs.declared.Sheet.{Sheet}
 use Rattle.sheet.specs.Upto.{countTo, those}
 use Rattle.sheet.specs.Sheets.{held, Whole, word, hides, owed, shaped, sound, markWords, allMarks}
 use Rattle.sheet.specs.Changes.{freshSheet, marking, hide, hiding, adding, padded, stays, without, wiped, showing, resetting}
 use Rattle.sheet.proofs.UptoLaws.{length-those, top-or-below, sum-part, sum-but-one, sum-most}
 use Rattle.sheet.proofs.ClosingUp.{at-zeros, at-padded, those-from}
-use Rattle.sheet.proofs.OwnAfter.{held-adding-same, held-adding-other, held-without-other, held-without-less, used-without}
+use Rattle.sheet.proofs.PlaceRows.{place-rows, row-small, rows-closed}
+use Rattle.sheet.proofs.OwnAfter.{held-adding-same, held-adding-other, rows-adding, held-without-other, held-without-less, used-without}
 use Rattle.sheet.proofs.HidesAfter.{hides-other, wiped-same, wiped-other}
 use Rattle.sheet.proofs.SoundParts.{Sound, sound-parts, parts-sound, used-is-held}
 
@@ -29,8 +32,11 @@ use Rattle.sheet.proofs.SoundParts.{Sound, sound-parts, parts-sound, us
 pub whole-fresh : (d rows desks : ℕ) → Whole (freshSheet d rows desks)
 unfolding freshSheet
 whole-fresh d rows desks =
-    record
-    { marks-long = length-replicate allMarks zero; sets-long = length-replicate mostPlaces zero; owners-long = length-replicate mostPlaces zero }
+    record {
+      marks-long = length-replicate allMarks zero;
+      sets-long = length-replicate (mostPlaces * rowWords) zero;
+      owners-long = length-replicate mostPlaces zero;
+    }
 
 pub sound-fresh : (d rows desks : ℕ) → 1 ≤ d → d ≤ mostValues → rows ≤ mostRows → 1 ≤ desks → desks ≤ mostDesks
     → sound (freshSheet d rows desks) ≡ true
@@ -47,7 +53,7 @@ sound-fresh d rows desks a b c e f =
       owner = λ i h. absurd (not-suc-le-zero h);
       row = λ i h. absurd (not-suc-le-zero h);
       no-owner = λ i h l. at-zeros mostPlaces i;
-      no-row = λ i h l. at-zeros mostPlaces i;
+      no-row = λ i h l. ap (λ (rows : List ℕ). at rows i) (rows-zero mostPlaces) ∙ at-zeros mostPlaces i;
       share = λ k h. omega arith;
       promise = omega (arith, sum-most (λ k. promised) desks promised (λ k h. omega arith));
       mark = λ k n h l t. absurd (not-both t (ap (λ (x : ℕ). has x (n % wordBits)) (at-zeros allMarks (word k n)) ∙ has-empty (n % wordBits)));
@@ -118,11 +124,20 @@ module _ {s : Sheet} (k row : ℕ) (w : Whole s) (p : Sound s) (hk : k < s .desk
     | inr m ↦ rw (at-other (s .owners) (s .used) k i (omega arith)) (p .owner i m)
   ]
 
-  new-rows : within (s .d) row ≡ true → (i : ℕ) → i < suc (s .used) → within (s .d) (at (set (s .sets) (s .used) row) i) ≡ true
-  new-rows hr i l = elim (top-or-below (s .used) i l) [
-    | inl e ↦ rw (e, at-same (s .sets) (s .used) row (omega arith)) hr
-    | inr m ↦ rw (at-other (s .sets) (s .used) row i (omega arith)) (p .row i m)
-  ]
+  module _ (hr : within (s .d) row ≡ true) where
+    -- the rows are read from the new words
+    added : rowsOf (adding s k row .sets) ≡ set (rowsOf (s .sets)) (s .used) row
+    added = rows-adding k row w h (row-small (s .d) row (p .values) hr)
+
+    new-rows : (i : ℕ) → i < suc (s .used) → within (s .d) (at (rowsOf (adding s k row .sets)) i) ≡ true
+    new-rows i l = elim (top-or-below (s .used) i l) [
+      | inl e ↦ rw (added, e, at-same (rowsOf (s .sets)) (s .used) row (omega (arith, place-rows (s .sets) (w .sets-long)))) hr
+      | inr m ↦ rw (added, at-other (rowsOf (s .sets)) (s .used) row i (omega arith)) (p .row i m)
+    ]
+
+    no-new-row : (i : ℕ) → i < mostPlaces → suc (s .used) ≤ i → at (rowsOf (adding s k row .sets)) i ≡ zero
+    no-new-row i l m =
+        ap (λ (rows : List ℕ). at rows i) added ∙ at-other (rowsOf (s .sets)) (s .used) row i (omega arith) ∙ p .no-row i l (omega arith)
 
   new-share : held s k < mostHeld → (j : ℕ) → j < s .desks → held (adding s k row) j ≤ mostHeld
   new-share hh j l = elim (ℕ-discrete j k) [
@@ -133,7 +148,9 @@ module _ {s : Sheet} (k row : ℕ) (w : Whole s) (p : Sound s) (hk : k < s .desk
   new-promise : (held s k < promised) ⊎ (s .used + owed s < mostPlaces) → suc (s .used) + owed (adding s k row) ≤ mostPlaces
   new-promise c =
       let one = held-adding-same k row w h in
-      let others = sum-but-one (λ j. promised - held (adding s k row) j) (λ j. promised - held s j) (s .desks) k hk (λ j l ne. ap (λ (x : ℕ). promised - x) (held-adding-other k row w h j ne)) in
+      let others =
+      sum-but-one (λ j. promised - held (adding s k row) j) (λ j. promised - held s j) (s .desks) k hk
+      (λ j l ne. ap (λ (x : ℕ). promised - x) (held-adding-other k row w h j ne)) in
       elim c [ inl few ↦ omega (arith, p .promise) | inr free ↦ omega arith ]
 
 pub sound-adding : {s : Sheet} (k row : ℕ) → Whole s → sound s ≡ true → k < s .desks → within (s .d) row ≡ true → held s k < mostHeld
@@ -152,7 +169,7 @@ sound-adding {s} k row w ok hk hr hh c =
       owner = new-owners k row w p hk h;
       row = new-rows k row w p hk h hr;
       no-owner = λ i l m. at-other (s .owners) (s .used) k i (omega arith) ∙ p .no-owner i l (omega arith);
-      no-row = λ i l m. at-other (s .sets) (s .used) row i (omega arith) ∙ p .no-row i l (omega arith);
+      no-row = no-new-row k row w p hk h hr;
       share = new-share k row w p hk h hh;
       promise = new-promise k row w p hk h c;
       mark = p .mark;
@@ -169,10 +186,14 @@ module _ {s : Sheet} (k from upto : ℕ) (p : Sound s) (hk : k < s .desks) (ab :
       let t = those-from (stays (s .owners) k from upto) (s .owners) (s .used) i h in
       rw (at-padded (kept (s .owners)) i, t .2) (p .owner (t .0) (t .1))
 
-  kept-row : (i : ℕ) → i < without s k from upto .used → within (s .d) (at (padded (kept (s .sets))) i) ≡ true
+  -- the rows are read from the new words
+  kept-rows : rowsOf (without s k from upto .sets) ≡ padded (kept (rowsOf (s .sets)))
+  kept-rows = rows-closed (stays (s .owners) k from upto) (s .sets) (s .used)
+
+  kept-row : (i : ℕ) → i < without s k from upto .used → within (s .d) (at (rowsOf (without s k from upto .sets)) i) ≡ true
   kept-row i h =
-      let t = those-from (stays (s .owners) k from upto) (s .sets) (s .used) i h in
-      rw (at-padded (kept (s .sets)) i, t .2) (p .row (t .0) (t .1))
+      let t = those-from (stays (s .owners) k from upto) (rowsOf (s .sets)) (s .used) i h in
+      rw (kept-rows, at-padded (kept (rowsOf (s .sets))) i, t .2) (p .row (t .0) (t .1))
 
   past-kept : (l : List ℕ) (i : ℕ) → without s k from upto .used ≤ i → at (padded (kept l)) i ≡ zero
   past-kept l i h = at-padded (kept l) i ∙ past (kept l) i (omega (arith, length-those (stays (s .owners) k from upto) l (s .used)))
@@ -187,7 +208,9 @@ module _ {s : Sheet} (k from upto : ℕ) (p : Sound s) (hk : k < s .desks) (ab :
   less-promise =
       let less = held-without-less s k from upto ab in
       let holds = sum-but-one (held (without s k from upto)) (held s) (s .desks) k hk (λ j l ne. held-without-other s k from upto j ne) in
-      let owes = sum-but-one (λ j. promised - held (without s k from upto) j) (λ j. promised - held s j) (s .desks) k hk (λ j l ne. ap (λ (x : ℕ). promised - x) (held-without-other s k from upto j ne)) in
+      let owes =
+      sum-but-one (λ j. promised - held (without s k from upto) j) (λ j. promised - held s j) (s .desks) k hk
+      (λ j l ne. ap (λ (x : ℕ). promised - x) (held-without-other s k from upto j ne)) in
       omega (arith, p .promise, used-is-held s (p .owner), used-is-held (without s k from upto) kept-owner)
 
 pub sound-without : (s : Sheet) (k from upto : ℕ) → sound s ≡ true → k < s .desks → from ≤ upto → sound (without s k from upto) ≡ true
@@ -204,7 +227,7 @@ sound-without s k from upto ok hk ab =
       owner = kept-owner k from upto p hk ab;
       row = kept-row k from upto p hk ab;
       no-owner = λ i l. past-kept k from upto p hk ab (s .owners) i;
-      no-row = λ i l. past-kept k from upto p hk ab (s .sets) i;
+      no-row = λ i l m. ap (λ (rows : List ℕ). at rows i) (kept-rows k from upto p hk ab) ∙ past-kept k from upto p hk ab (rowsOf (s .sets)) i m;
       share = less-share k from upto p hk ab;
       promise = less-promise k from upto p hk ab;
       mark = p .mark;

@@ -11,6 +11,7 @@ use borrow.Author.Tests.{leb-true, le-leb, ltb-true, lt-ltb, eqb-true, eq-eqb, n
 use Rattle.sets.specs.Limits.{mostDesks, mostHeld, mostPlaces, mostRows, mostValues}
 use Rattle.theory.specs.Pairings.{at}
 use Rattle.sets.specs.Sets.{within}
+use Rattle.sets.specs.Rows.{rowsOf}
 use Rattle.sets.proofs.Bools.{and-left, and-right, and-both, or-cases, or-left, or-right, true-or-false, not-both}
 use Rattle.sheet.specs.declared.Sheet.{Sheet}
 use Rattle.sheet.specs.Upto.{countTo, allTo, sumTo}
@@ -25,9 +26,9 @@ pub record Sound (s : Sheet) : Type 0 where
   pub few-desks : s .desks ≤ mostDesks
   pub places : s .used ≤ mostPlaces
   pub owner : (i : ℕ) → i < s .used → at (s .owners) i < s .desks
-  pub row : (i : ℕ) → i < s .used → within (s .d) (at (s .sets) i) ≡ true
+  pub row : (i : ℕ) → i < s .used → within (s .d) (at (rowsOf (s .sets)) i) ≡ true
   pub no-owner : (i : ℕ) → i < mostPlaces → s .used ≤ i → at (s .owners) i ≡ zero
-  pub no-row : (i : ℕ) → i < mostPlaces → s .used ≤ i → at (s .sets) i ≡ zero
+  pub no-row : (i : ℕ) → i < mostPlaces → s .used ≤ i → at (rowsOf (s .sets)) i ≡ zero
   pub share : (k : ℕ) → k < s .desks → held s k ≤ mostHeld
   pub promise : s .used + owed s ≤ mostPlaces
   pub mark : (k n : ℕ) → k < mostDesks → n < mostRows → hides (s .marks) k n ≡ true → (k < s .desks) × (n < s .rows)
@@ -51,17 +52,17 @@ module _ (s : Sheet) where
   abbrev mark-right : ℕ → ℕ → Bool
   mark-right k n = not (hides (s .marks) k n) || (ltb k (s .desks) && ltb n (s .rows))
 
-  owned-says : (i : ℕ) → owned s i ≡ true → (at (s .owners) i < s .desks) × (within (s .d) (at (s .sets) i) ≡ true)
+  owned-says : (i : ℕ) → owned s i ≡ true → (at (s .owners) i < s .desks) × (within (s .d) (at (rowsOf (s .sets)) i) ≡ true)
   owned-says i e =
-      let t = and-two (ltb (at (s .owners) i) (s .desks)) (within (s .d) (at (s .sets) i)) e in
+      let t = and-two (ltb (at (s .owners) i) (s .desks)) (within (s .d) (at (rowsOf (s .sets)) i)) e in
       (ltb-true (at (s .owners) i) (s .desks) (t .0), t .1)
 
-  unused-says : (i : ℕ) → unused i ≡ true → s .used ≤ i → (at (s .owners) i ≡ zero) × (at (s .sets) i ≡ zero)
+  unused-says : (i : ℕ) → unused i ≡ true → s .used ≤ i → (at (s .owners) i ≡ zero) × (at (rowsOf (s .sets)) i ≡ zero)
   unused-says i e h = elim (or-cases (ltb i (s .used)) (empty s i) e) [
     | inl l ↦ absurd (omega (arith, ltb-true i (s .used) l))
     | inr z ↦
-        (let t = and-two (eqb (at (s .owners) i) 0) (eqb (at (s .sets) i) 0) z in
-        (eqb-true (at (s .owners) i) 0 (t .0), eqb-true (at (s .sets) i) 0 (t .1)))
+        (let t = and-two (eqb (at (s .owners) i) 0) (eqb (at (rowsOf (s .sets)) i) 0) z in
+        (eqb-true (at (s .owners) i) 0 (t .0), eqb-true (at (rowsOf (s .sets)) i) 0 (t .1)))
   ]
 
   mark-says : (k n : ℕ) → mark-right k n ≡ true → hides (s .marks) k n ≡ true → (k < s .desks) × (n < s .rows)
@@ -74,8 +75,9 @@ module _ (s : Sheet) where
   unfolding sound shaped placed shared markedRight
   sound-parts e =
       let parts = and-four (shaped s) (placed s) (shared s) (markedRight s) e in
-      let desks-used = and-two (leb 1 (s .d) && leb (s .d) mostValues && leb (s .rows) mostRows && leb 1 (s .desks) && leb (s .desks) mostDesks) (leb (s .used) mostPlaces) (parts .0) in
-      let desks = and-two (leb 1 (s .d) && leb (s .d) mostValues && leb (s .rows) mostRows && leb 1 (s .desks)) (leb (s .desks) mostDesks) (desks-used .0) in
+      let numbers = leb 1 (s .d) && leb (s .d) mostValues && leb (s .rows) mostRows && leb 1 (s .desks) in
+      let desks-used = and-two (numbers && leb (s .desks) mostDesks) (leb (s .used) mostPlaces) (parts .0) in
+      let desks = and-two numbers (leb (s .desks) mostDesks) (desks-used .0) in
       let shape = and-four (leb 1 (s .d)) (leb (s .d) mostValues) (leb (s .rows) mostRows) (leb 1 (s .desks)) (desks .0) in
       let places = and-two (allTo (owned s) (s .used)) (allTo unused mostPlaces) (parts .1) in
       let shares = and-two (allTo (λ k. leb (held s k) mostHeld) (s .desks)) (leb (s .used + owed s) mostPlaces) (parts .2) in
@@ -100,12 +102,17 @@ module _ (s : Sheet) where
   says-unused : Sound s → (i : ℕ) → i < mostPlaces → unused i ≡ true
   says-unused p i h = elim (decLt i (s .used)) [
     | yes l ↦ or-left _ (empty s i) (lt-ltb i (s .used) l)
-    | no l ↦ or-right (ltb i (s .used)) _ (and-both _ _ (eq-eqb (at (s .owners) i) 0 (p .no-owner i h (omega arith))) (eq-eqb (at (s .sets) i) 0 (p .no-row i h (omega arith))))
+    | no l ↦
+        (let no-owner = eq-eqb (at (s .owners) i) 0 (p .no-owner i h (omega arith)) in
+        let no-row = eq-eqb (at (rowsOf (s .sets)) i) 0 (p .no-row i h (omega arith)) in
+        or-right (ltb i (s .used)) _ (and-both _ _ no-owner no-row))
   ]
 
   says-mark : Sound s → (k n : ℕ) → k < mostDesks → n < mostRows → mark-right k n ≡ true
   says-mark p k n h l = elim (true-or-false (hides (s .marks) k n)) [
-    | inl e ↦ (let t = p .mark k n h l e in or-right (not (hides (s .marks) k n)) _ (and-both _ _ (lt-ltb k (s .desks) (t .0)) (lt-ltb n (s .rows) (t .1))))
+    | inl e ↦
+        (let t = p .mark k n h l e in
+        or-right (not (hides (s .marks) k n)) _ (and-both _ _ (lt-ltb k (s .desks) (t .0)) (lt-ltb n (s .rows) (t .1))))
     | inr e ↦ rw e
   ]
 

@@ -14,6 +14,7 @@ use Rattle.sets.proofs.Bools.{and-both, or-left, or-right}
 use Rattle.theory.specs.Pairings.{at}
 use Rattle.sets.specs.Limits.{mostDesks, mostPlaces}
 use Rattle.sets.specs.Sets.{within}
+use Rattle.sets.specs.Rows.{rowsOf}
 use Rattle.theory.proofs.Places.{at-same, at-other}
 use Rattle.sheet.specs.declared.Sheet.{Sheet}
 use Rattle.sheet.specs.Upto.{countTo, allTo}
@@ -25,44 +26,44 @@ use Rattle.sheet.proofs.UptoLaws.{all-fails, all-intro, top-or-below, c
 
 -- place i is used, or it has set 0 and owner 0
 abbrev pub spare : ℕ → List ℕ → List ℕ → ℕ → Bool
-spare used sets owners i = ltb i used || (eqb (at owners i) zero && eqb (at sets i) zero)
+spare used rows owners i = ltb i used || (eqb (at owners i) zero && eqb (at rows i) zero)
 
 -- every place before the next is so
-pub record Spare (used : ℕ) (sets owners : List ℕ) (next : ℕ) : Type 0 where
+pub record Spare (used : ℕ) (rows owners : List ℕ) (next : ℕ) : Type 0 where
   pub from : used ≤ next
-  pub before : (i : ℕ) → i < next → spare used sets owners i ≡ true
+  pub before : (i : ℕ) → i < next → spare used rows owners i ≡ true
 
-module _ (used : ℕ) (sets owners : List ℕ) where
-  pub spare-start : Spare used sets owners used
-  spare-start = record { from = omega arith; before = λ i h. or-left (ltb i used) (eqb (at owners i) zero && eqb (at sets i) zero) (lt-ltb i used h) }
+module _ (used : ℕ) (rows owners : List ℕ) where
+  pub spare-start : Spare used rows owners used
+  spare-start = record { from = omega arith; before = λ i h. or-left (ltb i used) (eqb (at owners i) zero && eqb (at rows i) zero) (lt-ltb i used h) }
 
-module _ {used : ℕ} {sets owners : List ℕ} {next : ℕ} (s : Spare used sets owners next) where
+module _ {used : ℕ} {rows owners : List ℕ} {next : ℕ} (s : Spare used rows owners next) where
   unused : ltb next used ≡ false
   unused = le-ltb next used (s .from)
 
-  pub spare-more : at owners next ≡ zero → at sets next ≡ zero → Spare used sets owners (suc next)
+  pub spare-more : at owners next ≡ zero → at rows next ≡ zero → Spare used rows owners (suc next)
   spare-more o e = record { from = omega (arith, s .from); before = before }
     where
-      here : spare used sets owners next ≡ true
+      here : spare used rows owners next ≡ true
       here =
-          or-right (ltb next used) (eqb (at owners next) zero && eqb (at sets next) zero)
-          (and-both (eqb (at owners next) zero) (eqb (at sets next) zero) (eq-eqb (at owners next) zero o) (eq-eqb (at sets next) zero e))
+          or-right (ltb next used) (eqb (at owners next) zero && eqb (at rows next) zero)
+          (and-both (eqb (at owners next) zero) (eqb (at rows next) zero) (eq-eqb (at owners next) zero o) (eq-eqb (at rows next) zero e))
 
-      before : (i : ℕ) → i < suc next → spare used sets owners i ≡ true
+      before : (i : ℕ) → i < suc next → spare used rows owners i ≡ true
       before i h = elim (top-or-below next i h) [
-        | inl q ↦ ap (spare used sets owners) q ∙ here
+        | inl q ↦ ap (spare used rows owners) q ∙ here
         | inr l ↦ s .before i l
       ]
 
-  pub spare-owner : at owners next ≢ zero → next < mostPlaces → false ≡ allTo (spare used sets owners) mostPlaces
-  spare-owner ne h = sym (all-fails (spare used sets owners) mostPlaces next h (rw (unused, ne-eqb (at owners next) zero ne) refl))
+  pub spare-owner : at owners next ≢ zero → next < mostPlaces → false ≡ allTo (spare used rows owners) mostPlaces
+  spare-owner ne h = sym (all-fails (spare used rows owners) mostPlaces next h (rw (unused, ne-eqb (at owners next) zero ne) refl))
 
-  pub spare-set : at owners next ≡ zero → at sets next ≢ zero → next < mostPlaces → false ≡ allTo (spare used sets owners) mostPlaces
+  pub spare-set : at owners next ≡ zero → at rows next ≢ zero → next < mostPlaces → false ≡ allTo (spare used rows owners) mostPlaces
   spare-set o ne h =
-      sym (all-fails (spare used sets owners) mostPlaces next h (rw (unused, eq-eqb (at owners next) zero o, ne-eqb (at sets next) zero ne) refl))
+      sym (all-fails (spare used rows owners) mostPlaces next h (rw (unused, eq-eqb (at owners next) zero o, ne-eqb (at rows next) zero ne) refl))
 
-  pub spare-all : mostPlaces ≤ next → true ≡ allTo (spare used sets owners) mostPlaces
-  spare-all h = sym (all-intro (spare used sets owners) mostPlaces (λ i l. s .before i (omega arith)))
+  pub spare-all : mostPlaces ≤ next → true ≡ allTo (spare used rows owners) mostPlaces
+  spare-all h = sym (all-intro (spare used rows owners) mostPlaces (λ i l. s .before i (omega arith)))
 
 -- ---- the places that are used
 
@@ -96,7 +97,7 @@ module _ {s : Sheet} {counts : List ℕ} {next : ℕ} (t : Tallied s counts next
   pub tally-owner : s .desks ≤ at (s .owners) next → owned s next ≡ false
   tally-owner h = rw (le-ltb (at (s .owners) next) (s .desks) h) refl
 
-  pub tally-row : at (s .owners) next < s .desks → within (s .d) (at (s .sets) next) ≡ false → owned s next ≡ false
+  pub tally-row : at (s .owners) next < s .desks → within (s .d) (at (rowsOf (s .sets)) next) ≡ false → owned s next ≡ false
   tally-row h e = rw (lt-ltb (at (s .owners) next) (s .desks) h, e) refl
 
   -- as many counts as came in
@@ -107,11 +108,15 @@ module _ {s : Sheet} {counts : List ℕ} {next : ℕ} (t : Tallied s counts next
   pub tally-small : (k : ℕ) → k < mostDesks → at counts k ≤ next
   tally-small k h = rw (t .counted k h) (count-le (owns (s .owners) k) next)
 
-  pub tally-more : next < s .used → at (s .owners) next < s .desks → s .desks ≤ mostDesks → within (s .d) (at (s .sets) next) ≡ true
+  pub tally-more : next < s .used → at (s .owners) next < s .desks → s .desks ≤ mostDesks → within (s .d) (at (rowsOf (s .sets)) next) ≡ true
       → Tallied s (set counts (at (s .owners) next) (suc (at counts (at (s .owners) next)))) (suc next)
   tally-more u h w e =
-      record
-      { upto = u; before = before; long = length-set counts o (suc (at counts o)) ∙ t .long; counted = λ k l. elim (ℕ-discrete k o) [ yes q ↦ same k l q | no ne ↦ other k l ne ] }
+      record {
+        upto = u;
+        before = before;
+        long = length-set counts o (suc (at counts o)) ∙ t .long;
+        counted = λ k l. elim (ℕ-discrete k o) [ yes q ↦ same k l q | no ne ↦ other k l ne ];
+      }
     where
       o : ℕ
       o = at (s .owners) next
@@ -131,13 +136,15 @@ module _ {s : Sheet} {counts : List ℕ} {next : ℕ} (t : Tallied s counts next
       other k l ne =
           at-other counts o (suc (at counts o)) k ne ∙ t .counted k l ∙ sym (count-no (owns (s .owners) k) next (ne-eqb o k (λ q. ne (sym q))))
 
-  pub tally-all : s .used ≤ next → (right : Bool) → right ≡ allTo (spare (s .used) (s .sets) (s .owners)) mostPlaces → Surveyed placed s right counts
+  pub tally-all : s .used ≤ next → (right : Bool) → right ≡ allTo (spare (s .used) (rowsOf (s .sets)) (s .owners)) mostPlaces
+      → Surveyed placed s right counts
   unfolding placed
   tally-all h right e =
       let all : next ≡ s .used = omega (arith, t .upto) in
       record {
         right-is = e
-            ∙ sym (ap (λ (b : Bool). b && allTo (spare (s .used) (s .sets) (s .owners)) mostPlaces) (all-intro (owned s) (s .used) (λ i l. t .before i (omega arith))));
+            ∙ sym (ap (λ (b : Bool). b && allTo (spare (s .used) (rowsOf (s .sets)) (s .owners)) mostPlaces)
+            (all-intro (owned s) (s .used) (λ i l. t .before i (omega arith))));
         counted = λ _ k l. t .counted k l ∙ ap (countTo (owns (s .owners) k)) all;
         long = t .long;
       }

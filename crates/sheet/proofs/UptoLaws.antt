@@ -1,4 +1,5 @@
--- Laws of what is said of the numbers below n: one number more, dependence on the numbers below n alone, each of them, and two sums that differ at one number. Assumes nothing.
+-- Laws of what is said of the numbers below n: one number more, dependence on the numbers below n alone, each of them, and two sums that
+-- differ at one number. Assumes nothing.
 use Prim.Native.Nat.{ℕ, zero, suc, _+_, _*_, _≤_, _<_}
 use mathlib.Core.Path.{_≡_, refl, ap, _∙_}
 use mathlib.Core.Logic.{_≢_, _⊎_, inl, inr}

@@ -7,6 +7,7 @@ use lib.Dec.{leb, ltb}
 use lib.ListN.{length, set, replicate}
 use Rattle.sets.specs.Limits.{mostPlaces, wordBits}
 use Rattle.sets.specs.Sets.{single}
+use Rattle.sets.specs.Rows.{rowWords, rowsOf, inWords, putRow}
 use Rattle.theory.specs.Pairings.{at}
 use Rattle.sheet.specs.declared.Sheet.{Sheet}
 use Rattle.sheet.specs.Upto.{countTo, those}
@@ -21,7 +22,7 @@ freshSheet d rows desks =
       desks = desks;
       used = zero;
       marks = replicate allMarks zero;
-      sets = replicate mostPlaces zero;
+      sets = replicate (mostPlaces * rowWords) zero;
       owners = replicate mostPlaces zero;
     }
 
@@ -42,7 +43,7 @@ hiding s k n = marking s (hide (s .marks) k n)
 
 -- 'the row becomes the desk's last'
 abbrev pub adding : Sheet → ℕ → ℕ → Sheet
-adding s k row = placing s (suc (s .used)) (set (s .sets) (s .used) row) (set (s .owners) (s .used) k)
+adding s k row = placing s (suc (s .used)) (putRow (s .sets) (s .used) row) (set (s .owners) (s .used) k)
 
 -- ---- rows taken out, 'the rest close up in order'
 
@@ -58,7 +59,7 @@ stays owners k from upto i = not (owns owners k i && (leb from (countTo (owns ow
 abbrev pub without : Sheet → ℕ → ℕ → ℕ → Sheet
 without s k from upto =
     placing s (countTo (stays (s .owners) k from upto) (s .used))
-    (padded (those (stays (s .owners) k from upto) (s .sets) (s .used)))
+    (inWords (padded (those (stays (s .owners) k from upto) (rowsOf (s .sets)) (s .used))))
     (padded (those (stays (s .owners) k from upto) (s .owners) (s .used)))
 
 -- ---- marks taken off

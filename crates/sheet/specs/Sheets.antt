@@ -7,6 +7,7 @@ use lib.Dec.{eqb, leb, ltb}
 use lib.ListN.{length}
 use Rattle.sets.specs.Limits.{mostValues, mostRows, mostDesks, mostPlaces, mostHeld, promised, wordBits}
 use Rattle.sets.specs.Sets.{has, within}
+use Rattle.sets.specs.Rows.{rowWords, rowsOf}
 use Rattle.theory.specs.Pairings.{at}
 use Rattle.sheet.specs.declared.Sheet.{Sheet}
 use Rattle.sheet.specs.Upto.{countTo, allTo, sumTo, those}
@@ -17,7 +18,7 @@ owns owners k i = eqb (at owners i) k
 
 -- the rows of desk k in order of insertion, and how many they are
 abbrev pub own : Sheet → ℕ → List ℕ
-own s k = those (owns (s .owners) k) (s .sets) (s .used)
+own s k = those (owns (s .owners) k) (rowsOf (s .sets)) (s .used)
 
 abbrev pub held : Sheet → ℕ → ℕ
 held s k = countTo (owns (s .owners) k) (s .used)
@@ -32,7 +33,7 @@ allMarks = mostDesks * markWords
 -- the lists have their lengths
 pub record Whole (s : Sheet) : Type 0 where
   pub marks-long : length (s .marks) ≡ allMarks
-  pub sets-long : length (s .sets) ≡ mostPlaces
+  pub sets-long : length (s .sets) ≡ mostPlaces * rowWords
   pub owners-long : length (s .owners) ≡ mostPlaces
 
 -- the word of marks that has table row n of desk k
@@ -55,11 +56,11 @@ shaped s = leb 1 (s .d) && leb (s .d) mostValues && leb (s .rows) mostRows && le
 
 -- 'each used place has an existing owner and a non-empty set within d;'
 abbrev pub owned : Sheet → ℕ → Bool
-owned s i = ltb (at (s .owners) i) (s .desks) && within (s .d) (at (s .sets) i)
+owned s i = ltb (at (s .owners) i) (s .desks) && within (s .d) (at (rowsOf (s .sets)) i)
 
 -- 'the used places come first, unused ones have set 0 and owner 0;'
 abbrev pub empty : Sheet → ℕ → Bool
-empty s i = eqb (at (s .owners) i) 0 && eqb (at (s .sets) i) 0
+empty s i = eqb (at (s .owners) i) 0 && eqb (at (rowsOf (s .sets)) i) 0
 
 unfoldable pub placed : Sheet → Bool
 placed s = allTo (owned s) (s .used) && allTo (λ i. ltb i (s .used) || empty s i) mostPlaces

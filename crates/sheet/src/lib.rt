@@ -17,7 +17,7 @@ pub struct Sheet {
     pub desks: usize,
     pub used: usize,
     pub marks: [u64; Sheet::MARKS],
-    pub sets: [u64; Sheet::PLACES],
+    pub sets: [u64; Sheet::SETS],
     pub owners: [usize; Sheet::PLACES],
 }
 
@@ -30,6 +30,8 @@ impl Sheet {
     pub const PROMISED: usize = 8;
 
     pub const PLACES: usize = 512;
+    // The words that hold the places' sets.
+    pub const SETS: usize = Sheet::PLACES * sets::WORDS;
 
     pub const DESKS: usize = 32;
     // The rows that a table may have.
@@ -37,7 +39,7 @@ impl Sheet {
     // The rows that a view may have.
     pub const VIEW: usize = Sheet::ROWS + Sheet::HELD;
     // The words of one desk's marks, and of all desks'.
-    pub const WORDS: usize = Sheet::ROWS / sets::BITS;
+    pub const WORDS: usize = Sheet::ROWS / sets::word::BITS;
 
     pub const MARKS: usize = Sheet::DESKS * Sheet::WORDS;
 
@@ -51,7 +53,7 @@ impl Sheet {
             desks,
             used: 0,
             marks: [0; Sheet::MARKS],
-            sets: [0; Sheet::PLACES],
+            sets: [0; Sheet::SETS],
             owners: [0; Sheet::PLACES],
         }
     }

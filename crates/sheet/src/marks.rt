@@ -13,8 +13,8 @@ pub fn hidden(marks: &[u64; Sheet::MARKS], desk: usize, n: usize) -> bool
     requires { ⌜ (desk < mostDesks) × (n < mostRows) ⌝ }
     ensures { λ r. ⌜ r ≡ hides (now (marks .entry)) desk n ⌝ }
 {
-    let word = marks[desk * Sheet::WORDS + n / sets::BITS];
-    sets::has(word, n % sets::BITS)
+    let word = marks[desk * Sheet::WORDS + n / sets::word::BITS];
+    sets::word::has(word, n % sets::word::BITS)
 }
 
 // Table row n is hidden at the desk.
@@ -22,9 +22,9 @@ pub fn hide(marks: &mut [u64; Sheet::MARKS], desk: usize, n: usize)
     requires { ⌜ (desk < mostDesks) × (n < mostRows) ⌝ }
     ensures { λ _. ⌜ now (marks .exit) ≡ hide (now (marks .entry)) desk n ⌝ }
 {
-    let at = desk * Sheet::WORDS + n / sets::BITS;
+    let at = desk * Sheet::WORDS + n / sets::word::BITS;
     let word = marks[at];
-    marks[at] = sets::with(word, n % sets::BITS);
+    marks[at] = sets::word::with(word, n % sets::word::BITS);
 }
 
 // No row is hidden at the desk any more.
@@ -47,14 +47,14 @@ fn may_hide(desks: usize, rows: usize, word: usize) -> u64
     if desks <= word / Sheet::WORDS {
         return 0;
     }
-    let first = word % Sheet::WORDS * sets::BITS;
+    let first = word % Sheet::WORDS * sets::word::BITS;
     if rows <= first {
         return 0;
     }
-    if rows - first < sets::BITS {
-        return sets::all(rows - first);
+    if rows - first < sets::word::BITS {
+        return sets::word::all(rows - first);
     }
-    sets::all(sets::BITS)
+    sets::word::all(sets::word::BITS)
 }
 
 // Marks stand only for existing desks and rows below T.
@@ -64,7 +64,7 @@ pub fn marks_right(desks: usize, rows: usize, marks: &[u64]) -> bool
 {
     let mut next: usize = 0;
     while next < Sheet::MARKS {
-        if !sets::subset(marks[next], may_hide(desks, rows, next)) {
+        if !sets::word::subset(marks[next], may_hide(desks, rows, next)) {
             return false;
         }
         next += 1;

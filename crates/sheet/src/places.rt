@@ -11,7 +11,7 @@ ghost use Rattle.sheet.specs.Surveys.{placesOf, Surveyed};
 use crate::Sheet;
 
 // The places from `used` on have set 0 and owner 0.
-fn rest_empty(used: usize, sets: &[u64; Sheet::PLACES], owners: &[usize; Sheet::PLACES]) -> bool
+fn rest_empty(used: usize, sets: &[u64; Sheet::SETS], owners: &[usize; Sheet::PLACES]) -> bool
     ensures { λ r. ⌜ r ≡ allTo (λ i. ltb i used || empty (placesOf 0 0 used (now (sets .entry)) (now (owners .entry))) i) mostPlaces ⌝ }
 {
     let mut next = used;
@@ -19,7 +19,7 @@ fn rest_empty(used: usize, sets: &[u64; Sheet::PLACES], owners: &[usize; Sheet::
         if owners[next] != 0 {
             return false;
         }
-        if sets[next] != 0 {
+        if !sets::is_empty(sets::row_at(sets, next)) {
             return false;
         }
         next += 1;
@@ -32,7 +32,7 @@ pub fn go_over(
     d: usize,
     desks: usize,
     used: usize,
-    sets: &[u64; Sheet::PLACES],
+    sets: &[u64; Sheet::SETS],
     owners: &[usize; Sheet::PLACES],
     counts: &mut [usize],
 ) -> bool
@@ -45,7 +45,7 @@ pub fn go_over(
         if desks <= owner {
             return false;
         }
-        if !sets::within(sets[next], d) {
+        if !sets::within(sets::row_at(sets, next), d) {
             return false;
         }
         counts[owner] = counts[owner] + 1;

@@ -1,10 +1,12 @@
 // Rows taken out of the places: those that stay close up in order.
 ghost use mathlib.Core.Path.{_≡_};
 ghost use mathlib.Core.Bool.{cond, _&&_};
-ghost use Prim.Native.Nat.{suc, _≤_, _<_};
+ghost use mathlib.Core.List.{_++_};
+ghost use Prim.Native.Nat.{zero, suc, _-_, _*_, _≤_, _<_};
 ghost use lib.Dec.{eqb, leb, ltb};
-ghost use lib.ListN.{length, take};
+ghost use lib.ListN.{length, take, replicate};
 ghost use Rattle.sets.specs.Limits.{mostPlaces};
+ghost use Rattle.sets.specs.Rows.{rowWords};
 ghost use Rattle.sheet.specs.Changes.{padded};
 ghost use Rattle.sheet.specs.Removals.{ClosedUp, TakenOut};
 use crate::Sheet;
@@ -41,7 +43,7 @@ fn close_up(
     sets: &mut [u64],
     owners: &mut [usize],
 ) -> usize
-    requires { ⌜ (used ≤ mostPlaces) × (length (now sets) ≡ mostPlaces) × (length (now owners) ≡ mostPlaces) ⌝ }
+    requires { ⌜ (used ≤ mostPlaces) × (length (now sets) ≡ mostPlaces * rowWords) × (length (now owners) ≡ mostPlaces) ⌝ }
     ensures { λ r. ⌜ ClosedUp desk from upto (now (sets .entry)) (now (owners .entry)) used r (now (sets .exit)) (now (owners .exit)) ⌝ }
 {
     let mut seen: usize = 0;
@@ -49,9 +51,9 @@ fn close_up(
     let mut next: usize = 0;
     while next < used {
         let owner = owners[next];
-        let set = sets[next];
+        let set = sets::row_at(sets, next);
         let gone = goes(desk, from, upto, owner, seen);
-        sets[left] = set;
+        sets::put_row(sets, left, set);
         owners[left] = owner;
         seen = more(seen, owner == desk);
         left = more(left, !gone);
@@ -62,12 +64,13 @@ fn close_up(
 
 // The places from `left` on become empty.
 fn empty_from(left: usize, sets: &mut [u64], owners: &mut [usize])
-    requires { ⌜ (left ≤ mostPlaces) × (length (now sets) ≡ mostPlaces) × (length (now owners) ≡ mostPlaces) ⌝ }
-    ensures { λ _. ⌜ (now (sets .exit) ≡ padded (take left (now (sets .entry)))) × (now (owners .exit) ≡ padded (take left (now (owners .entry)))) ⌝ }
+    requires { ⌜ (left ≤ mostPlaces) × (length (now sets) ≡ mostPlaces * rowWords) × (length (now owners) ≡ mostPlaces) ⌝ }
+    ensures { λ _. ⌜ (now (sets .exit) ≡ take (left * rowWords) (now (sets .entry)) ++ replicate ((mostPlaces - left) * rowWords) zero)
+        × (now (owners .exit) ≡ padded (take left (now (owners .entry)))) ⌝ }
 {
     let mut next = left;
     while next < Sheet::PLACES {
-        sets[next] = 0;
+        sets::put_row(sets, next, sets::empty());
         owners[next] = 0;
         next += 1;
     }
@@ -82,7 +85,7 @@ pub fn take_out(
     sets: &mut [u64],
     owners: &mut [usize],
 ) -> usize
-    requires { ⌜ (used ≤ mostPlaces) × (length (now sets) ≡ mostPlaces) × (length (now owners) ≡ mostPlaces) ⌝ }
+    requires { ⌜ (used ≤ mostPlaces) × (length (now sets) ≡ mostPlaces * rowWords) × (length (now owners) ≡ mostPlaces) ⌝ }
     ensures { λ r. ⌜ TakenOut desk from upto (now (sets .entry)) (now (owners .entry)) used r (now (sets .exit)) (now (owners .exit)) ⌝ }
 {
     let left = close_up(desk, from, upto, used, sets, owners);

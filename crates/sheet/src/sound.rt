@@ -40,7 +40,7 @@ pub fn check<'a>(
     desks: usize,
     used: usize,
     marks: &'a [u64; Sheet::MARKS],
-    sets: &'a [u64; Sheet::PLACES],
+    sets: &'a [u64; Sheet::SETS],
     owners: &'a [usize; Sheet::PLACES],
     counts: &mut [usize],
 ) -> bool

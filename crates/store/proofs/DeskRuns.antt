@@ -9,6 +9,9 @@ use native.Mathlib.Omega.{arith}
 use lib.Dec.{eqb}
 use lib.ListN.{length, take, drop}
 use borrow.Author.Tests.{eqb-true, eq-eqb, ne-eqb}
+use Rattle.sets.proofs.RowValues.{bits-less}
+use Rattle.sets.specs.Rows.{bits}
+use Rattle.sets.specs.declared.Row.{Row}
 use Rattle.sets.specs.Limits.{mostDesks, mostPlaces, mostRows, promised, wordBits}
 use Rattle.sets.specs.Sets.{has}
 use Rattle.sets.proofs.Values.{has-empty}
@@ -56,8 +59,8 @@ module _ {d : ℕ} {table : List ℕ} {desks : ℕ} (good : Good d table desks) 
   -- ---- an accepted call
 
   module _ {s : Sheet} (r : Reached d table desks s) (k : ℕ) (hk : k < desks) where
-    place : (set : ℕ) → Allowed d (length table) (crowded s) (own s k) (Do (Insert set)) → s .used < mostPlaces
-    place set a = room s k (r .stays-sound) (omega (arith, r .same-desks)) (has-room s (r .stays-sound) k (a .2))
+    place : (row : Row) → Allowed d (length table) (crowded s) (own s k) (Do (Insert row)) → s .used < mostPlaces
+    place row a = room s k (r .stays-sound) (omega (arith, r .same-desks)) (has-room s (r .stays-sound) k (a .2))
 
     narrow : {n : ℕ} → n < length table → n < mostRows
     narrow l = omega (arith, good .right .small)
@@ -70,7 +73,8 @@ module _ {d : ℕ} {table : List ℕ} {desks : ℕ} (good : Good d table desks) 
     unfolding changed ownIn
     own-same (Do (Delete (Table n))) h a e = e
     own-same (Do (Delete (Own n))) h a e = own-without-same s k n (suc n) (omega arith) ∙ ap (λ (l : List ℕ). take n l ++ drop (suc n) l) e
-    own-same (Do (Insert set)) h a e = own-adding-same k set (r .whole) (place set a) ∙ ap (λ (l : List ℕ). l ++ (set ∷ [])) e
+    own-same (Do (Insert row)) h a e =
+        own-adding-same k (bits row) (r .whole) (place row a) (bits-less row) ∙ ap (λ (l : List ℕ). l ++ (bits row ∷ [])) e
     own-same (Do Reset) h a e = own-without-all s k (sound-parts s (r .stays-sound) .places)
     own-same (Ask q) h a e = e
 
@@ -82,7 +86,7 @@ module _ {d : ℕ} {table : List ℕ} {desks : ℕ} (good : Good d table desks) 
       | no ne ↦ rw (ne-eqb m n ne) (hides-other (s .marks) k m (r .whole .marks-long) low (narrow a) k n l (inr (λ q. ne (sym q))) ∙ e)
     ]
     hides-here (Do (Delete (Own m))) h a n l e = e
-    hides-here (Do (Insert set)) h a n l e = e
+    hides-here (Do (Insert row)) h a n l e = e
     hides-here (Do Reset) h a n l e = wiped-same (s .marks) k n l
     hides-here (Ask q) h a n l e = e
 
@@ -91,7 +95,7 @@ module _ {d : ℕ} {table : List ℕ} {desks : ℕ} (good : Good d table desks) 
       unfolding changed
       own-other (Do (Delete (Table n))) a = refl
       own-other (Do (Delete (Own n))) a = own-without-other s k n (suc n) j ne
-      own-other (Do (Insert set)) a = own-adding-other k set (r .whole) (place set a) j ne
+      own-other (Do (Insert row)) a = own-adding-other k (bits row) (r .whole) (place row a) (bits-less row) j ne
       own-other (Do Reset) a = own-without-other s k zero mostPlaces j ne
       own-other (Ask q) a = refl
 
@@ -100,7 +104,7 @@ module _ {d : ℕ} {table : List ℕ} {desks : ℕ} (good : Good d table desks) 
       unfolding changed
       hides-there (Do (Delete (Table m))) a n l = hides-other (s .marks) k m (r .whole .marks-long) low (narrow a) j n l (inl ne)
       hides-there (Do (Delete (Own m))) a n l = refl
-      hides-there (Do (Insert set)) a n l = refl
+      hides-there (Do (Insert row)) a n l = refl
       hides-there (Do Reset) a n l = wiped-other (s .marks) k n l j ne
       hides-there (Ask q) a n l = refl
 

@@ -8,6 +8,7 @@ use native.Mathlib.Omega.{arith}
 use lib.Dec.{eqb, leb, ltb}
 use lib.ListN.{length}
 use borrow.Author.Tests.{ltb-false, leb-false, eqb-false, not-false, le-ltb, ne-eqb}
+use Rattle.sets.specs.Rows.{bits}
 use Rattle.sets.specs.Limits.{mostDesks, mostHeld, mostPlaces, mostRows, promised}
 use Rattle.sets.specs.Sets.{within}
 use Rattle.sets.proofs.Bools.{true-or-false}
@@ -98,7 +99,7 @@ parts-good {d} {table} {desks} g =
 abbrev pub Allowed : ℕ → ℕ → Bool → List ℕ → Call → Type 0
 Allowed d rows full own (Do (Delete (Table n))) = n < rows
 Allowed d rows full own (Do (Delete (Own n))) = n < length own
-Allowed d rows full own (Do (Insert set)) = (within d set ≡ true) × (length own < mostHeld) × (full ≡ true → length own < promised)
+Allowed d rows full own (Do (Insert row)) = (within d (bits row) ≡ true) × (length own < mostHeld) × (full ≡ true → length own < promised)
 Allowed d rows full own (Do Reset) = Unit {0}
 Allowed d rows full own (Ask q) = Unit {0}
 
@@ -113,12 +114,12 @@ unfolding serve
 allowed d table full places hid own (Do (Delete (Table n))) t =
     leb-false (length table) n (passed (leb (length table) n) NoRow ((hid n gives HiddenAlready) ∷ []) Done t .0)
 allowed d table full places hid own (Do (Delete (Own n))) t = leb-false (length own) n (passed (leb (length own) n) NoRow [] Done t .0)
-allowed d table full places hid own (Do (Insert set)) t =
+allowed d table full places hid own (Do (Insert row)) t =
     let room : List Case = ((leb promised (length own) && full) gives NoRoom) ∷ [] in
-    let one = passed (not (within d set)) BadSet ((leb mostHeld (length own) gives Full) ∷ room) Done t in
+    let one = passed (not (within d (bits row))) BadSet ((leb mostHeld (length own) gives Full) ∷ room) Done t in
     let two = passed (leb mostHeld (length own)) Full room Done (one .1) in
     let three = passed (leb promised (length own) && full) NoRoom [] Done (two .1) in (
-      not-false (within d set) (one .0),
+      not-false (within d (bits row)) (one .0),
       leb-false mostHeld (length own) (two .0),
       λ e. leb-false promised (length own) (and-no (leb promised (length own)) full (three .0) e),
     )

@@ -9,6 +9,7 @@ use native.Mathlib.Omega.{arith}
 use lib.Dec.{leb}
 use lib.ListN.{length, length-append}
 use borrow.Author.Tests.{lt-leb, ne-eqb}
+use Rattle.sets.specs.Rows.{bits, asRow}
 use Rattle.sets.specs.Limits.{mostHeld, mostPlaces, promised}
 use Rattle.sheet.specs.Upto.{sumTo}
 use Rattle.sheet.proofs.UptoLaws.{top-or-below, sum-part}
@@ -37,7 +38,7 @@ sum-least g c (suc n) m h p = elim (decLt n m) [
 -- ---- a run in which desks 0 to j - 1 ask for 64 rows each
 
 abbrev asking : ℕ → Turn
-asking k = turn k (Do (Insert 1)) []
+asking k = turn k (Do (Insert (asRow 1))) []
 
 unfoldable asked : ℕ → ℕ → List Turn → List Turn
 asked k zero past = past
@@ -75,8 +76,8 @@ module _ {d : ℕ} {table : List ℕ} {desks : ℕ} {tell : Store} (begun : acce
           let before = asked k n past in
           let ih = gets k n h past none (omega arith) in
           let empty = ap (λ (l : List Call). length (ownIn l)) (others 8 k n (omega arith) past) in
-          let next = history-next begun keeps before k (Do (Insert 1)) [] (accepts before k h (omega arith) (omega arith)) in
-          omega (arith, ap (λ (l : List Call). length (ownIn l)) next, length-append (ownIn (history tell k before)) (1 ∷ []))
+          let next = history-next begun keeps before k (Do (Insert (asRow 1))) [] (accepts before k h (omega arith) (omega arith)) in
+          omega (arith, ap (λ (l : List Call). length (ownIn l)) next, length-append (ownIn (history tell k before)) (bits (asRow 1) ∷ []))
 
       held-in : (j : ℕ) → j ≤ 8 → ((i : ℕ) → i < j → heldBy tell i (run j) ≡ mostHeld) × ((i : ℕ) → j ≤ i → heldBy tell i (run j) ≡ zero)
       unfolding run history ownIn

@@ -8,6 +8,7 @@ use contract.Lifetimes.{Lfts}
 use denote.Ref.{now}
 use denote.Triple.Clauses.{AtExit}
 use borrow.Fn.Kinds.{Dens, endedOf}
+use Rattle.sets.specs.Rows.{rowsOf}
 use Rattle.sheet.specs.declared.Sheet.{Sheet}
 use Rattle.store.specs.declared.Call.{Call}
 use Rattle.store.specs.declared.Reply.{Reply}
@@ -33,7 +34,7 @@ module _ (d : ℕ) (table : List ℕ) (desks : ℕ) where
     pub reply : Reply
     pub exit : AtExit (endedOf 1 begin-kinds.ps begin-kinds.r) κs
     pub admitted : begin.Post κs args reply exit
-    pub lends : (now (args .0) ≡ table) × (args .1 .0 ≡ d) × (args .1 .1 .0 ≡ desks)
+    pub lends : (rowsOf (now (args .0)) ≡ table) × (args .1 .0 ≡ d) × (args .1 .1 .0 ≡ desks)
     pub hands-over : s ≡ reply .sheet
 
   -- what may come of a turn through `desk_call`
@@ -43,7 +44,7 @@ module _ (d : ℕ) (table : List ℕ) (desks : ℕ) where
     pub reply : Reply
     pub exit : AtExit (endedOf 2 desk-call-kinds.ps desk-call-kinds.r) κs
     pub admitted : desk-call.Post κs args reply exit
-    pub lends : (now (args .0) ≡ table) × (args .1 .0 ≡ d) × (args .1 .1 .0 ≡ s)
+    pub lends : (rowsOf (now (args .0)) ≡ table) × (args .1 .0 ≡ d) × (args .1 .1 .0 ≡ s)
     pub asks : (args .1 .1 .1 .0 ≡ t .desk) × (args .1 .1 .1 .1 .0 ≡ t .call) × (now (args .1 .1 .1 .1 .1 .0) ≡ t .list)
     pub tells : o ≡ record { answer = reply .answer; list = now (exit .1 .1 .1 .1 .1 .0) }
     pub hands-back : s′ ≡ reply .sheet

@@ -86,7 +86,7 @@ module _ (d : ℕ) (table : List ℕ) (s : Sheet) (k : ℕ) (c : Call) (places :
   call-rising : (c : Call) → Rising 5 (callCases d table (crowded s) places hid (own s k) c)
   call-rising (Do (Delete (Table n))) = (omega arith, (omega arith, tt))
   call-rising (Do (Delete (Own n))) = (omega arith, tt)
-  call-rising (Do (Insert set)) = (omega arith, (omega arith, (omega arith, tt)))
+  call-rising (Do (Insert row)) = (omega arith, (omega arith, (omega arith, tt)))
   call-rising (Do Reset) = tt
   call-rising (Ask (Look n)) = (omega arith, tt)
   call-rising (Ask Count) = tt
@@ -111,7 +111,7 @@ module _ (d : ℕ) (table : List ℕ) (s : Sheet) (k : ℕ) (c : Call) (places :
   unfolding applies
   call-never-26 (Do (Delete (Table n))) = refl
   call-never-26 (Do (Delete (Own n))) = refl
-  call-never-26 (Do (Insert set)) = refl
+  call-never-26 (Do (Insert row)) = refl
   call-never-26 (Do Reset) = refl
   call-never-26 (Ask (Look n)) = refl
   call-never-26 (Ask Count) = refl

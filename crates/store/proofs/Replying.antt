@@ -198,7 +198,7 @@ room-in-parts s k {call} {c} e p = go c (rw e at p)
     go : (c : Change) → Possible s k (Do c) → Possible (sheetOf zero zero zero (s .used) (s .marks) (s .sets) (s .owners)) k (Do c)
     go (Delete (Table n)) p = p
     go (Delete (Own n)) p = p
-    go (Insert set) p = p
+    go (Insert row) p = p
     go Reset p = p
 
 -- ---- once the desk is known
@@ -217,7 +217,7 @@ possible d table s counts k T c places t = go c (allowed d table (crowded s) pla
     go : (c : Call) → Allowed d (length table) (crowded s) (own s k) c → Possible s k c
     go (Do (Delete (Table n))) a = (L .desk, omega (arith, L .table-rows))
     go (Do (Delete (Own n))) a = (L .used, omega (arith, L .share, length-own s k))
-    go (Do (Insert set)) a = elim (has-room s (T .sheet-right) k (a .2)) [
+    go (Do (Insert row)) a = elim (has-room s (T .sheet-right) k (a .2)) [
       | inl h ↦ has-place h
       | inr h ↦ omega arith
     ]

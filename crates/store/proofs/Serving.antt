@@ -1,11 +1,15 @@
 -- From what each part of a desk's call answers to what the desk is told. Assumes nothing.
-use Prim.Native.Nat.{ℕ, _+_, _-_}
-use mathlib.Core.Path.{_≡_, refl, sym}
+use Prim.Native.Nat.{ℕ, _+_, _-_, _*_, _≤_}
+use mathlib.Core.Path.{_≡_, refl, sym, _∙_}
 use mathlib.Core.Bool.{Bool, true, false, cond}
 use mathlib.Core.List.{List, []}
+use native.Mathlib.Omega.{arith}
 use lib.Dec.{eqb}
 use lib.ListN.{length, take}
 use Rattle.sets.specs.Limits.{mostPlaces, promised}
+use Rattle.sets.specs.declared.Row.{Row}
+use Rattle.sets.specs.Rows.{rowWords, bits, rowsOf}
+use Rattle.sets.proofs.LentRows.{rows-take}
 use Rattle.theory.specs.Pairings.{at}
 use Rattle.refusals.specs.Cases.{decided}
 use Rattle.sheet.specs.declared.Sheet.{Sheet}
@@ -35,6 +39,15 @@ nothing-written a list = go (accepted a)
     go true = refl
     go false = refl
 
+-- ---- a view in words
+
+module _ {table : List ℕ} {hid : ℕ → Bool} {own : List ℕ} {m : ℕ} (words : List ℕ) (seen : Viewed table hid own m (rowsOf words)) where
+  pub view-fits : m ≤ length (rowsOf words)
+  view-fits = omega (arith, seen .most, seen .long)
+
+  pub view-words : rowsOf (take (m * rowWords) words) ≡ view table hid own
+  view-words = rows-take m words view-fits ∙ seen .is
+
 module _ {d : ℕ} {table : List ℕ} {s : Sheet} {counts : List ℕ} {k : ℕ} (T : Trusted d table s counts k) where
   pub mine : at counts k ≡ length (own s k)
   mine = limits d table s counts k T .mine
@@ -44,10 +57,10 @@ module _ {d : ℕ} {table : List ℕ} {s : Sheet} {counts : List ℕ} {k : ℕ} 
   pub judged-take : (n : ℕ) (r : Answer) → r ≡ decided Refused (rowCases (at counts k) n) Done → ChangeJudged d table s k (Delete (Own n)) r
   judged-take n r a = rw (sym mine) a
 
-  pub judged-insert : (set owes : ℕ) → owes ≡ sumTo (λ j. promised - at counts j) (s .desks) → (r : Answer)
-      → r ≡ decided Refused (insertCases d (eqb (s .used + owes) mostPlaces) (at counts k) set) Done → ChangeJudged d table s k (Insert set) r
+  pub judged-insert : (row : Row) (owes : ℕ) → owes ≡ sumTo (λ j. promised - at counts j) (s .desks) → (r : Answer)
+      → r ≡ decided Refused (insertCases d (eqb (s .used + owes) mostPlaces) (at counts k) (bits row)) Done → ChangeJudged d table s k (Insert row) r
   unfolding crowded
-  judged-insert set owes o r a = rw (sym mine, sym (limits d table s counts k T .owes), sym o) a
+  judged-insert row owes o r a = rw (sym mine, sym (limits d table s counts k T .owes), sym o) a
 
   -- ---- a call
 
@@ -56,10 +69,10 @@ module _ {d : ℕ} {table : List ℕ} {s : Sheet} {counts : List ℕ} {k : ℕ} 
   unfolding serve written
   served-change old c change e r a = rw e record { answer-is = a; list-is = nothing-written r old }
 
-  pub served-question : (old : List ℕ) (c : Call) (q : Question) → c ≡ Ask q → (m : ℕ) (rows : List ℕ)
-      → Viewed table (hides (s .marks) k) (own s k) m rows
-      → (r : Answer) (list : List ℕ) → Replied d (take m rows) (at counts k) q old r list → Served d table s k c old r list
+  pub served-question : (old : List ℕ) (c : Call) (q : Question) → c ≡ Ask q → (m : ℕ) (words : List ℕ)
+      → Viewed table (hides (s .marks) k) (own s k) m (rowsOf words) → (r : Answer) (list : List ℕ)
+      → Replied d (rowsOf (take (m * rowWords) words)) (at counts k) q old r list → Served d table s k c old r list
   unfolding serve written
-  served-question old c q e m rows seen r list R =
-      let told : Replied d (view table (hides (s .marks) k) (own s k)) (length (own s k)) q old r list = rw (sym (seen .is), sym mine) R in
+  served-question old c q e m words seen r list R =
+      let told : Replied d (view table (hides (s .marks) k) (own s k)) (length (own s k)) q old r list = rw (sym (view-words words seen), sym mine) R in
       rw e record { answer-is = told .answer-is; list-is = told .list-is }

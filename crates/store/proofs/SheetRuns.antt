@@ -7,6 +7,7 @@ use native.Mathlib.Omega.{arith}
 use lib.Dec.{leb}
 use lib.ListN.{length}
 use borrow.Author.Tests.{leb-false, eq-eqb}
+use Rattle.sets.specs.Rows.{bits}
 use Rattle.sets.specs.Limits.{mostPlaces, mostRows}
 use Rattle.sheet.specs.declared.Sheet.{Sheet}
 use Rattle.sheet.specs.Sheets.{own, hides, Whole, sound}
@@ -97,11 +98,11 @@ module _ {d : ℕ} {table : List ℕ} {desks : ℕ} (good : Good d table desks) 
         same-rows = r .same-rows;
         same-desks = r .same-desks;
       }
-  after {s} r k (Do (Insert set)) h a =
+  after {s} r k (Do (Insert row)) h a =
       record {
-        whole = whole-adding k set (r .whole);
+        whole = whole-adding k (bits row) (r .whole);
         stays-sound =
-            sound-adding k set (r .whole) (r .stays-sound) (omega (arith, r .same-desks)) (rw (r .same-d) (a .0))
+            sound-adding k (bits row) (r .whole) (r .stays-sound) (omega (arith, r .same-desks)) (rw (r .same-d) (a .0))
             (omega (arith, a .1, length-own s k))
             (has-room s (r .stays-sound) k (a .2));
         same-d = r .same-d;

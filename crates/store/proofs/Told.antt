@@ -8,6 +8,7 @@ use native.Mathlib.Omega.{arith}
 use lib.Dec.{leb, ltb}
 use lib.ListN.{length}
 use borrow.Author.Tests.{leb-true, leb-false, le-leb, lt-leb, not-false}
+use Rattle.sets.specs.Rows.{bits, asRow}
 use Rattle.sets.specs.Limits.{mostHeld, mostInView, promised}
 use Rattle.sets.specs.Sets.{within}
 use Rattle.sets.proofs.Bools.{and-left, and-right}
@@ -48,7 +49,7 @@ module _ (table : List ℕ) (hid hid′ : ℕ → Bool) (own : List ℕ) (same :
       go true e = refl
       go false e = rw (same n (leb-false (length table) n e))
   serve-same d full places (Do (Delete (Own n))) = refl
-  serve-same d full places (Do (Insert set)) = refl
+  serve-same d full places (Do (Insert row)) = refl
   serve-same d full places (Do Reset) = refl
   serve-same d full places (Ask q) = rw view-same
 
@@ -70,7 +71,7 @@ and-false false = refl
 
 pub ten-is : (a : Answer) → numberOf a ≡ 10 → a ≡ Refused NoRoom
 ten-is Done e = absurd (omega arith)
-ten-is (Seen set) e = absurd (omega arith)
+ten-is (Seen row) e = absurd (omega arith)
 ten-is (Counted rows held) e = absurd (omega arith)
 ten-is (Listed n) e = absurd (omega arith)
 ten-is (Refused r) e = ap Refused (ten-no-room r e)
@@ -86,19 +87,19 @@ module _ (d : ℕ) (table : List ℕ) (full : Bool) (places : ℕ) (hid : ℕ �
             (skipped 10 (leb (length table) n) NoRow ((hid n gives HiddenAlready) ∷ []) Done (omega arith) e .1) .1,
       ))
   serve-ten (Do (Delete (Own n))) e = absurd (omega (arith, skipped 10 (leb (length own) n) NoRow [] Done (omega arith) e .1))
-  serve-ten (Do (Insert set)) e =
+  serve-ten (Do (Insert row)) e =
       let room : List Case = ((leb promised (length own) && full) gives NoRoom) ∷ [] in
-      let one = skipped 10 (not (within d set)) BadSet ((leb mostHeld (length own) gives Full) ∷ room) Done (omega arith) e in
+      let one = skipped 10 (not (within d (bits row))) BadSet ((leb mostHeld (length own) gives Full) ∷ room) Done (omega arith) e in
       let two = skipped 10 (leb mostHeld (length own)) Full room Done (omega arith) (one .1) in
       let three = applied 10 (leb promised (length own) && full) NoRoom Done (omega arith) (two .1) in (
-        not-false (within d set) (one .0),
+        not-false (within d (bits row)) (one .0),
         leb-true promised (length own) (and-left (leb promised (length own)) full three),
         leb-false mostHeld (length own) (two .0),
         and-right (leb promised (length own)) full three,
       )
   serve-ten (Do Reset) e = absurd (omega arith)
   serve-ten (Ask (Look n)) e =
-      absurd (omega (arith, skipped 10 (leb (length (view table hid own)) n) NoRow [] (Seen (at (view table hid own) n)) (omega arith) e .1))
+      absurd (omega (arith, skipped 10 (leb (length (view table hid own)) n) NoRow [] (Seen (asRow (at (view table hid own) n))) (omega arith) e .1))
   serve-ten (Ask Count) e = absurd (omega arith)
   serve-ten (Ask Distinct) e =
       let a : Answer = Listed (length (kept d (view table hid own))) in
@@ -113,7 +114,7 @@ module _ (d : ℕ) (table : List ℕ) (full : Bool) (places : ℕ) (hid : ℕ �
       → numberOf (serve d table full places hid own c) ≡ 10
   unfolding serve properCall decided
   ten-serve (Do (Delete t)) p lo hi f = absurd (false≢true p)
-  ten-serve (Do (Insert set)) p lo hi f = rw (p, lt-leb mostHeld (length own) hi, le-leb promised (length own) lo, f)
+  ten-serve (Do (Insert row)) p lo hi f = rw (p, lt-leb mostHeld (length own) hi, le-leb promised (length own) lo, f)
   ten-serve (Do Reset) p lo hi f = absurd (false≢true p)
   ten-serve (Ask q) p lo hi f = absurd (false≢true p)
 
@@ -121,7 +122,7 @@ module _ (d : ℕ) (table : List ℕ) (full : Bool) (places : ℕ) (hid : ℕ �
   pub serve-next : (c : Call) → properCall d c ≡ true → length own < promised → accepted (serve d table full places hid own c) ≡ true
   unfolding serve properCall decided accepted
   serve-next (Do (Delete t)) p h = absurd (false≢true p)
-  serve-next (Do (Insert set)) p h = rw (p, lt-leb mostHeld (length own) (omega arith), lt-leb promised (length own) h)
+  serve-next (Do (Insert row)) p h = rw (p, lt-leb mostHeld (length own) (omega arith), lt-leb promised (length own) h)
   serve-next (Do Reset) p h = absurd (false≢true p)
   serve-next (Ask q) p h = absurd (false≢true p)
 
@@ -129,7 +130,7 @@ module _ (d : ℕ) (table : List ℕ) (full : Bool) (places : ℕ) (hid : ℕ �
   pub serve-free : (c : Call) → properCall d c ≡ true → length own < mostHeld → full ≡ false → accepted (serve d table full places hid own c) ≡ true
   unfolding serve properCall decided accepted
   serve-free (Do (Delete t)) p h f = absurd (false≢true p)
-  serve-free (Do (Insert set)) p h f = rw (p, lt-leb mostHeld (length own) h, f, and-false (leb promised (length own)))
+  serve-free (Do (Insert row)) p h f = rw (p, lt-leb mostHeld (length own) h, f, and-false (leb promised (length own)))
   serve-free (Do Reset) p h f = absurd (false≢true p)
   serve-free (Ask q) p h f = absurd (false≢true p)
 
@@ -139,7 +140,7 @@ module _ (d : ℕ) (table : List ℕ) (full : Bool) (places : ℕ) (hid : ℕ �
   unfolding serve decided
   serve-but-ten (Do (Delete (Table n))) ne = refl
   serve-but-ten (Do (Delete (Own n))) ne = refl
-  serve-but-ten (Do (Insert set)) ne = go (not (within d set)) (leb mostHeld (length own)) (leb promised (length own)) full ne
+  serve-but-ten (Do (Insert row)) ne = go (not (within d (bits row))) (leb mostHeld (length own)) (leb promised (length own)) full ne
     where
       go : (a b c f : Bool) → let tests : Bool
           → Answer = λ x. decided Refused ((a gives BadSet) ∷ (b gives Full) ∷ ((c && x) gives NoRoom) ∷ []) Done in

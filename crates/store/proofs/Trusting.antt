@@ -4,6 +4,7 @@ use mathlib.Core.Path.{_≡_, sym, ap, _∙_}
 use mathlib.Core.List.{List}
 use native.Mathlib.Omega.{arith}
 use lib.ListN.{length}
+use Rattle.sets.specs.Rows.{rowsOf}
 use Rattle.sets.specs.Limits.{mostDesks, mostHeld, mostPlaces, mostRows, mostValues, promised}
 use Rattle.theory.specs.Pairings.{at}
 use Rattle.sets.proofs.BadRows.{bad-row-none}
@@ -63,5 +64,5 @@ module _ (d : ℕ) (table : List ℕ) (s : Sheet) (counts : List ℕ) (k : ℕ) 
         column = right .values;
         rows-within =
             within-view d table (hides (s .marks) k) (own s k) (bad-row-none d table (right .none-bad))
-            (rw (sym same) (within-those (s .d) (owns (s .owners) k) (s .sets) (s .used) (S .row)));
+            (rw (sym same) (within-those (s .d) (owns (s .owners) k) (rowsOf (s .sets)) (s .used) (S .row)));
       }

@@ -7,6 +7,7 @@ use native.Mathlib.Omega.{arith}
 use lib.Dec.{eqb, leb, ltb}
 use lib.ListN.{length, length-append}
 use borrow.Author.Tests.{ltb-true, ltb-false, leb-false, not-false}
+use Rattle.sets.specs.Rows.{bits, asRow}
 use Rattle.sets.specs.Limits.{mostHeld, mostInView, mostRows, mostValues, promised}
 use Rattle.theory.specs.Pairings.{at}
 use Rattle.theory.specs.Kept.{kept}
@@ -52,14 +53,14 @@ module _ (d : ℕ) (table : List ℕ) (full : Bool) (places : ℕ) (hid : ℕ �
       omega
       (arith, skipped 12 (hid n) HiddenAlready [] Done (omega arith) (skipped 12 (leb (length table) n) NoRow ((hid n gives HiddenAlready) ∷ []) Done (omega arith) e .1) .1)
   not-served (Do (Delete (Own n))) e = omega (arith, skipped 12 (leb (length own) n) NoRow [] Done (omega arith) e .1)
-  not-served (Do (Insert set)) e =
+  not-served (Do (Insert row)) e =
       let room : List Case = ((leb promised (length own) && full) gives NoRoom) ∷ [] in
-      let one = skipped 12 (not (within d set)) BadSet ((leb mostHeld (length own) gives Full) ∷ room) Done (omega arith) e in
+      let one = skipped 12 (not (within d (bits row))) BadSet ((leb mostHeld (length own) gives Full) ∷ room) Done (omega arith) e in
       let two = skipped 12 (leb mostHeld (length own)) Full room Done (omega arith) (one .1) in
       omega (arith, skipped 12 (leb promised (length own) && full) NoRoom [] Done (omega arith) (two .1) .1)
   not-served (Do Reset) e = omega arith
   not-served (Ask (Look n)) e =
-      omega (arith, skipped 12 (leb (length (view table hid own)) n) NoRow [] (Seen (at (view table hid own) n)) (omega arith) e .1)
+      omega (arith, skipped 12 (leb (length (view table hid own)) n) NoRow [] (Seen (asRow (at (view table hid own) n))) (omega arith) e .1)
   not-served (Ask Count) e = omega arith
   not-served (Ask Distinct) e =
       let rows = length (view table hid own) in

@@ -10,6 +10,8 @@ use lib.Dec.{eqb, leb, ltb}
 use lib.Pow.{pow-lt}
 use lib.ListN.{length, take, drop, length-append, length-take, length-drop}
 use borrow.Author.Tests.{lt-ltb, ltb-true, lt-leb, leb-false, eq-eqb, ne-eqb}
+use Rattle.sets.specs.Rows.{width, bits, asRow}
+use Rattle.sets.proofs.RowValues.{row-bits}
 use Rattle.sets.specs.Limits.{mostHeld, mostPlaces, promised}
 use Rattle.theory.specs.Pairings.{at}
 use Rattle.sets.specs.Sets.{below, within}
@@ -64,9 +66,9 @@ length-view table hid own =
 abbrev pub turn : ℕ → Call → List ℕ → Turn
 turn k c list = record { desk = k; call = c; list = list }
 
-pub within-one : (d : ℕ) → 1 ≤ d → within d 1 ≡ true
+pub within-one : (d : ℕ) → 1 ≤ d → within d (bits (asRow 1)) ≡ true
 unfolding within below
-within-one d h = lt-ltb 1 (2 ^ d) (pow-lt {i = zero} {j = d} h)
+within-one d h = rw (row-bits 1 (pow-lt {i = zero} {j = width} (omega arith))) (lt-ltb 1 (2 ^ d) (pow-lt {i = zero} {j = d} h))
 
 module _ {d : ℕ} {table : List ℕ} {desks : ℕ} {tell : Store} (begun : accepted (begunAnswer d table desks) ≡ true)
     (keeps : Demand3 d table desks tell) where
@@ -110,9 +112,9 @@ module _ {d : ℕ} {table : List ℕ} {desks : ℕ} {tell : Store} (begun : acce
   unfolding proper properCall history ownIn
   no-store-always-refuses refuses =
       let good = good-parts d table desks begun in
-      let t = turn zero (Do (Insert 1)) [] in
+      let t = turn zero (Do (Insert (asRow 1))) [] in
       not-both
-      (keeps .next [] t (and-both (ltb zero desks) (within d 1) (lt-ltb zero desks (good .some-desk)) (within-one d (good .right .some-value))) (omega arith)) (refuses [] t)
+      (keeps .next [] t (and-both (ltb zero desks) (within d (bits (asRow 1))) (lt-ltb zero desks (good .some-desk)) (within-one d (good .right .some-value))) (omega arith)) (refuses [] t)
 
   -- ---- a made-up count: the rows in the view, and its inserts less its removals since the last reset
 
@@ -239,7 +241,7 @@ module _ {d : ℕ} {table : List ℕ} {desks : ℕ} {tell : Store} (begun : acce
   -- ---- a look that shows where rows sit in the class list: it shows the desk's view, and what the others did doesn't tell on it
 
   pub no-look-shows-the-class-list : (past : List Turn) (k n : ℕ) (list : List ℕ) → k < desks → n < length (seen k past)
-      → tell past (turn k (Ask (Look n)) list) .answer ≡ Seen (at (seen k past) n)
+      → tell past (turn k (Ask (Look n)) list) .answer ≡ Seen (asRow (at (seen k past) n))
   unfolding serve decided properCall
   no-look-shows-the-class-list past k n list h l = answered-alone past k (Ask (Look n)) list h refl ∙ rw (lt-leb (length (seen k past)) n l)
 

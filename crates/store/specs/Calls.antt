@@ -5,7 +5,7 @@ use mathlib.Core.List.{List, [], _∷_, _++_}
 use lib.Dec.{eqb, leb, ltb}
 use lib.ListN.{length}
 use Rattle.sets.specs.Limits.{mostRows, mostDesks, mostPlaces}
-use Rattle.sets.specs.Limits.{mostRows, mostDesks, mostPlaces}
+use Rattle.sets.specs.Rows.{bits}
 use Rattle.refusals.specs.TableCases.{tableCases}
 use Rattle.sheet.specs.declared.Sheet.{Sheet}
 use Rattle.sheet.specs.Sheets.{own, hides, owed, sound}
@@ -67,7 +67,7 @@ allCases d table s k c places =
 abbrev pub changedBy : Sheet → ℕ → Change → Sheet
 changedBy s k (Delete (Table n)) = hiding s k n
 changedBy s k (Delete (Own n)) = without s k n (suc n)
-changedBy s k (Insert set) = adding s k set
+changedBy s k (Insert row) = adding s k (bits row)
 changedBy s k Reset = resetting s k
 
 -- 'look, count and distinct hand it back as it came'

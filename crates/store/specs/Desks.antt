@@ -6,6 +6,7 @@ use lib.Dec.{leb, ltb}
 use lib.ListN.{length, drop}
 use Rattle.sets.specs.Limits.{mostHeld, promised, mostInView}
 use Rattle.sets.specs.Sets.{within}
+use Rattle.sets.specs.Rows.{bits, asRow}
 use Rattle.theory.specs.Pairings.{at}
 use Rattle.theory.specs.Kept.{kept}
 use Rattle.sheet.specs.Upto.{those}
@@ -53,7 +54,7 @@ questionCases rows places Distinct = listCases places (length rows)
 
 -- 'the set there', 'rows in the view, own rows held', 'the count n'
 abbrev pub answerTo : ℕ → List ℕ → ℕ → Question → Answer
-answerTo d rows held (Look n) = Seen (at rows n)
+answerTo d rows held (Look n) = Seen (asRow (at rows n))
 answerTo d rows held Count = Counted (length rows) held
 answerTo d rows held Distinct = Listed (length (kept d rows))
 
@@ -68,7 +69,7 @@ writtenFor d rows Distinct = kept d rows
 abbrev pub changeCases : ℕ → List ℕ → Bool → (ℕ → Bool) → List ℕ → Change → List Case
 changeCases d table full hid own (Delete (Table n)) = hideCases (length table) hid n
 changeCases d table full hid own (Delete (Own n)) = rowCases (length own) n
-changeCases d table full hid own (Insert set) = insertCases d full (length own) set
+changeCases d table full hid own (Insert row) = insertCases d full (length own) (bits row)
 changeCases d table full hid own Reset = []
 
 -- ---- one desk's call

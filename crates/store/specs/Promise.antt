@@ -8,6 +8,7 @@ use lib.Dec.{eqb, leb, ltb}
 use lib.ListN.{length, take, drop}
 use Rattle.sets.specs.Limits.{mostPlaces, mostHeld, promised}
 use Rattle.sets.specs.Sets.{within}
+use Rattle.sets.specs.Rows.{bits}
 use Rattle.sheet.specs.declared.Sheet.{Sheet}
 use Rattle.sheet.specs.Upto.{sumTo}
 use Rattle.store.specs.declared.Target.the-variants.{Table, Own}
@@ -38,7 +39,7 @@ unfoldable pub hiddenIn : List Call → List ℕ
 hiddenIn [] = []
 hiddenIn (Do (Delete (Table n)) ∷ h) = n ∷ hiddenIn h
 hiddenIn (Do (Delete (Own n)) ∷ h) = hiddenIn h
-hiddenIn (Do (Insert set) ∷ h) = hiddenIn h
+hiddenIn (Do (Insert row) ∷ h) = hiddenIn h
 hiddenIn (Do Reset ∷ h) = []
 hiddenIn (Ask q ∷ h) = hiddenIn h
 
@@ -47,7 +48,7 @@ unfoldable pub ownIn : List Call → List ℕ
 ownIn [] = []
 ownIn (Do (Delete (Table n)) ∷ h) = ownIn h
 ownIn (Do (Delete (Own n)) ∷ h) = take n (ownIn h) ++ drop (suc n) (ownIn h)
-ownIn (Do (Insert set) ∷ h) = ownIn h ++ (set ∷ [])
+ownIn (Do (Insert row) ∷ h) = ownIn h ++ (bits row ∷ [])
 ownIn (Do Reset ∷ h) = []
 ownIn (Ask q ∷ h) = ownIn h
 
@@ -87,7 +88,7 @@ module _ (tell : Store) where
 -- 'An insert is proper when its desk exists and 8 doesn't apply.'
 unfoldable pub properCall : ℕ → Call → Bool
 properCall d (Do (Delete t)) = false
-properCall d (Do (Insert set)) = within d set
+properCall d (Do (Insert row)) = within d (bits row)
 properCall d (Do Reset) = false
 properCall d (Ask q) = false
 

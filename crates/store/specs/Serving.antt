@@ -48,7 +48,7 @@ pub record Served (d : ℕ) (table : List ℕ) (s : Sheet) (k : ℕ) (c : Call) 
 abbrev pub Possible : Sheet → ℕ → Call → Type 0
 Possible s k (Do (Delete (Table n))) = (k < mostDesks) × (n < mostRows)
 Possible s k (Do (Delete (Own n))) = (s .used ≤ mostPlaces) × (n < mostHeld)
-Possible s k (Do (Insert set)) = s .used < mostPlaces
+Possible s k (Do (Insert row)) = s .used < mostPlaces
 Possible s k (Do Reset) = (s .used ≤ mostPlaces) × (k < mostDesks)
 Possible s k (Ask q) = Unit {0}
 

@@ -3,6 +3,7 @@ ghost use mathlib.Core.Path.{_≡_};
 ghost use Prim.Native.Nat.{_<_, _≤_};
 ghost use lib.ListN.{length};
 ghost use Rattle.sets.specs.Limits.{mostValues, mostRows, mostDesks, mostInView};
+ghost use Rattle.sets.specs.Rows.{bits, asRow, rowsOf};
 ghost use Rattle.theory.specs.Pairings.{at};
 ghost use Rattle.theory.specs.Kept.{kept};
 ghost use Rattle.distinct.specs.Steps.{InColumn};
@@ -20,6 +21,7 @@ use crate::Question;
 use crate::Target;
 use crate::view;
 use refusals::Refusal;
+use sets::Row;
 use sheet::Sheet;
 
 // The table lent is of the d and T that the sheet began with, and the desk is one of its desks: Done, or refusal 4 or 5.
@@ -70,11 +72,11 @@ fn delete_own(held: usize, n: usize) -> Answer
 }
 
 // A row is put in; `full` where every free place is owed.
-fn insert(d: usize, full: bool, held: usize, set: u64) -> Answer
+fn insert(d: usize, full: bool, held: usize, row: Row) -> Answer
     requires { ⌜ d ≤ mostValues ⌝ }
-    ensures { λ r. ⌜ r ≡ decided Refused (insertCases d full held set) Done ⌝ }
+    ensures { λ r. ⌜ r ≡ decided Refused (insertCases d full held (bits row)) Done ⌝ }
 {
-    if !sets::within(set, d) {
+    if !sets::within(row, d) {
         return Answer::Refused(Refusal::BadSet);
     }
     if Sheet::HELD <= held {
@@ -91,22 +93,22 @@ fn insert(d: usize, full: bool, held: usize, set: u64) -> Answer
 
 // A row of the view is shown.
 fn look(rows: &[u64], n: usize) -> Answer
-    ensures { λ r. ⌜ r ≡ decided Refused (rowCases (length (now (rows .entry))) n) (Seen (at (now (rows .entry)) n)) ⌝ }
+    ensures { λ r. ⌜ r ≡ decided Refused (rowCases (length (rowsOf (now (rows .entry)))) n) (Seen (asRow (at (rowsOf (now (rows .entry))) n))) ⌝ }
 {
-    if rows.len() <= n {
+    if sets::row_count(rows) <= n {
         return Answer::Refused(Refusal::NoRow);
     }
-    Answer::Seen(rows[n])
+    Answer::Seen(sets::row_at(rows, n))
 }
 
 // The kept rows of the view are listed.
 fn list_kept(d: usize, rows: &[u64], list: &mut [usize]) -> Answer
-    requires { ⌜ (length (now rows) ≤ mostInView) × InColumn d (now rows) ⌝ }
-    ensures { λ r. ⌜ (r ≡ decided Refused (listCases (length (now (list .entry))) (length (now (rows .entry))))
-        (Listed (length (kept d (now (rows .entry))))))
-        × (now (list .exit) ≡ listAfter (kept d (now (rows .entry))) r (now (list .entry))) ⌝ }
+    requires { ⌜ (length (rowsOf (now rows)) ≤ mostInView) × InColumn d (rowsOf (now rows)) ⌝ }
+    ensures { λ r. ⌜ (r ≡ decided Refused (listCases (length (now (list .entry))) (length (rowsOf (now (rows .entry)))))
+        (Listed (length (kept d (rowsOf (now (rows .entry)))))))
+        × (now (list .exit) ≡ listAfter (kept d (rowsOf (now (rows .entry)))) r (now (list .entry))) ⌝ }
 {
-    if list.len() < rows.len() {
+    if list.len() < sets::row_count(rows) {
         return Answer::Refused(Refusal::ShortList);
     }
     let n = distinct::distinct(d, rows, list);
@@ -121,12 +123,12 @@ fn answer_question(
     question: Question,
     list: &mut [usize],
 ) -> Answer
-    requires { ⌜ (length (now rows) ≤ mostInView) × InColumn d (now rows) ⌝ }
-    ensures { λ r. ⌜ Replied d (now (rows .entry)) held question (now (list .entry)) r (now (list .exit)) ⌝ }
+    requires { ⌜ (length (rowsOf (now rows)) ≤ mostInView) × InColumn d (rowsOf (now rows)) ⌝ }
+    ensures { λ r. ⌜ Replied d (rowsOf (now (rows .entry))) held question (now (list .entry)) r (now (list .exit)) ⌝ }
 {
     match question {
         Question::Look(n) => look(rows, n),
-        Question::Count => Answer::Counted(rows.len(), held),
+        Question::Count => Answer::Counted(sets::row_count(rows), held),
         Question::Distinct => list_kept(d, rows, list),
     }
 }
@@ -138,24 +140,24 @@ fn judge_change<'a>(
     desks: usize,
     used: usize,
     marks: &'a [u64; Sheet::MARKS],
-    sets: &'a [u64; Sheet::PLACES],
+    sets: &'a [u64; Sheet::SETS],
     owners: &'a [usize; Sheet::PLACES],
     counts: &[usize; Sheet::DESKS],
     desk: usize,
     change: Change,
 ) -> Answer
-    requires { ⌜ Trusted d (now table) (sheetOf d (length (now table)) desks used (now marks) (now sets) (now owners)) (now counts) desk ⌝ }
-    ensures { λ r. ⌜ ChangeJudged d (now (table .entry))
-        (sheetOf d (length (now (table .entry))) desks used (now (marks .entry)) (now (sets .entry)) (now (owners .entry))) desk change r ⌝ }
+    requires { ⌜ Trusted d (rowsOf (now table)) (sheetOf d (length (rowsOf (now table))) desks used (now marks) (now sets) (now owners)) (now counts) desk ⌝ }
+    ensures { λ r. ⌜ ChangeJudged d (rowsOf (now (table .entry)))
+        (sheetOf d (length (rowsOf (now (table .entry)))) desks used (now (marks .entry)) (now (sets .entry)) (now (owners .entry))) desk change r ⌝ }
 {
     match change {
         Change::Delete(target) => match target {
-            Target::Table(n) => delete_table(table.len(), marks, desk, n),
+            Target::Table(n) => delete_table(sets::row_count(table), marks, desk, n),
             Target::Own(n) => delete_own(counts[desk], n),
         },
-        Change::Insert(set) => {
+        Change::Insert(row) => {
             let owed = sheet::shares::owed(desks, counts);
-            insert(d, used + owed == Sheet::PLACES, counts[desk], set)
+            insert(d, used + owed == Sheet::PLACES, counts[desk], row)
         }
         Change::Reset => Answer::Done,
     }
@@ -168,16 +170,16 @@ pub fn serve<'a>(
     desks: usize,
     used: usize,
     marks: &'a [u64; Sheet::MARKS],
-    sets: &'a [u64; Sheet::PLACES],
+    sets: &'a [u64; Sheet::SETS],
     owners: &'a [usize; Sheet::PLACES],
     counts: &[usize; Sheet::DESKS],
     desk: usize,
     call: Call,
     list: &mut [usize],
 ) -> Answer
-    requires { ⌜ Trusted d (now table) (sheetOf d (length (now table)) desks used (now marks) (now sets) (now owners)) (now counts) desk ⌝ }
-    ensures { λ r. ⌜ Served d (now (table .entry))
-        (sheetOf d (length (now (table .entry))) desks used (now (marks .entry)) (now (sets .entry)) (now (owners .entry))) desk call
+    requires { ⌜ Trusted d (rowsOf (now table)) (sheetOf d (length (rowsOf (now table))) desks used (now marks) (now sets) (now owners)) (now counts) desk ⌝ }
+    ensures { λ r. ⌜ Served d (rowsOf (now (table .entry)))
+        (sheetOf d (length (rowsOf (now (table .entry)))) desks used (now (marks .entry)) (now (sets .entry)) (now (owners .entry))) desk call
         (now (list .entry)) r (now (list .exit)) ⌝ }
 {
     match call {
@@ -194,9 +196,9 @@ pub fn serve<'a>(
             change,
         ),
         Call::Ask(question) => {
-            let mut rows = [0u64; Sheet::VIEW];
+            let mut rows = [0u64; Sheet::VIEW * sets::WORDS];
             let many = view::gather(table, marks, desk, used, sets, owners, &mut rows);
-            answer_question(d, &rows[..many], counts[desk], question, list)
+            answer_question(d, &rows[..many * sets::WORDS], counts[desk], question, list)
         }
     }
 }

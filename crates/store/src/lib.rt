@@ -1,9 +1,11 @@
 // The calls of a lesson: begin, and what a desk may ask; what is answered, and the sheet that is handed back.
 ghost use mathlib.Core.Path.{_≡_};
 ghost use lib.ListN.{length};
+ghost use Rattle.sets.specs.Rows.{rowsOf};
 ghost use Rattle.store.specs.Answers.{accepted};
 ghost use Rattle.store.specs.Calls.{begun, replied, told};
 use refusals::Refusal;
+use sets::Row;
 use sheet::Sheet;
 
 mod table; // table.rt: refusals 1 and 2
@@ -17,10 +19,10 @@ pub enum Target {
     Own(usize),
 }
 
-// What a desk may do to what it sees: `Insert` holds the set.
+// What a desk may do to what it sees: `Insert` holds the row.
 pub enum Change {
     Delete(Target),
-    Insert(u64),
+    Insert(Row),
     Reset,
 }
 
@@ -40,7 +42,7 @@ pub enum Call {
 // What is answered: a change is done; the set at a position; the rows in the view and the own rows; how many positions were listed; or a refusal.
 pub enum Answer {
     Done,
-    Seen(u64),
+    Seen(Row),
     Counted(usize, usize),
     Listed(usize),
     Refused(Refusal),
@@ -67,7 +69,7 @@ fn accepted(answer: Answer) -> bool
 
 // A lesson begins: a fresh sheet for this table, or a sheet of zeros, which no call accepts.
 pub fn begin(table: &[u64], d: usize, desks: usize) -> Reply
-    ensures { λ r. ⌜ r ≡ begun d (now (table .entry)) desks ⌝ }
+    ensures { λ r. ⌜ r ≡ begun d (rowsOf (now (table .entry))) desks ⌝ }
 {
     let answer = table::judge(table, d);
     if !accepted(answer) {
@@ -90,7 +92,7 @@ pub fn begin(table: &[u64], d: usize, desks: usize) -> Reply
     }
     Reply {
         answer,
-        sheet: Sheet::fresh(d, table.len(), desks),
+        sheet: Sheet::fresh(d, sets::row_count(table), desks),
     }
 }
 
@@ -103,8 +105,8 @@ pub fn desk_call(
     call: Call,
     list: &mut [usize],
 ) -> Reply
-    ensures { λ r. ⌜ (r ≡ replied d (now (table .entry)) sheet desk call (length (now (list .entry))))
-        × (now (list .exit) ≡ told d (now (table .entry)) sheet desk call (now (list .entry)) .list) ⌝ }
+    ensures { λ r. ⌜ (r ≡ replied d (rowsOf (now (table .entry))) sheet desk call (length (now (list .entry))))
+        × (now (list .exit) ≡ told d (rowsOf (now (table .entry))) sheet desk call (now (list .entry)) .list) ⌝ }
 {
     let mut marks = sheet.marks;
     let mut sets = sheet.sets;

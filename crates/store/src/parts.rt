@@ -1,5 +1,6 @@
 // A desk's call on the parts of a sheet, altered where they lie.
 ghost use mathlib.Core.Path.{_≡_};
+ghost use Rattle.sets.specs.Rows.{rowsOf};
 ghost use Rattle.sheet.specs.Surveys.{sheetOf};
 ghost use Rattle.store.specs.declared.Call.the-variants.{Do};
 ghost use Rattle.store.specs.Serving.{Possible, Responded, Changed, CarriedOut};
@@ -22,13 +23,13 @@ fn respond<'a>(
     desks: usize,
     used: usize,
     marks: &'a [u64; Sheet::MARKS],
-    sets: &'a [u64; Sheet::PLACES],
+    sets: &'a [u64; Sheet::SETS],
     owners: &'a [usize; Sheet::PLACES],
     desk: usize,
     call: Call,
     list: &mut [usize],
 ) -> Answer
-    ensures { λ r. ⌜ Responded d (now (table .entry))
+    ensures { λ r. ⌜ Responded d (rowsOf (now (table .entry)))
         (sheetOf sheetd rows desks used (now (marks .entry)) (now (sets .entry)) (now (owners .entry)))
         desk call (now (list .entry)) r (now (list .exit)) ⌝ }
 {
@@ -40,7 +41,7 @@ fn respond<'a>(
     if !sheet::sound::check(sheetd, rows, desks, used, marks, sets, owners, &mut counts) {
         return Answer::Refused(Refusal::Unsound);
     }
-    let known = desk::known(d, table.len(), sheetd, rows, desks, desk);
+    let known = desk::known(d, sets::row_count(table), sheetd, rows, desks, desk);
     if !accepted(known) {
         return known;
     }
@@ -63,7 +64,7 @@ fn respond<'a>(
 fn make(
     used: usize,
     marks: &mut [u64; Sheet::MARKS],
-    sets: &mut [u64; Sheet::PLACES],
+    sets: &mut [u64; Sheet::SETS],
     owners: &mut [usize; Sheet::PLACES],
     desk: usize,
     change: Change,
@@ -80,8 +81,8 @@ fn make(
             }
             Target::Own(n) => sheet::removals::take_out(desk, n, n + 1, used, sets, owners),
         },
-        Change::Insert(set) => {
-            sets[used] = set;
+        Change::Insert(row) => {
+            sets::put_row(sets, used, row);
             owners[used] = desk;
             used + 1
         }
@@ -109,13 +110,13 @@ pub fn carry_out(
     desks: usize,
     used: usize,
     marks: &mut [u64; Sheet::MARKS],
-    sets: &mut [u64; Sheet::PLACES],
+    sets: &mut [u64; Sheet::SETS],
     owners: &mut [usize; Sheet::PLACES],
     desk: usize,
     call: Call,
     list: &mut [usize],
 ) -> Outcome
-    ensures { λ r. ⌜ CarriedOut d (now (table .entry))
+    ensures { λ r. ⌜ CarriedOut d (rowsOf (now (table .entry)))
         (sheetOf sheetd rows desks used (now (marks .entry)) (now (sets .entry)) (now (owners .entry))) desk call (now (list .entry)) (r .answer)
         (sheetOf sheetd rows desks (r .used) (now (marks .exit)) (now (sets .exit)) (now (owners .exit))) (now (list .exit)) ⌝ }
 {

@@ -13,7 +13,7 @@ pub fn spoilt(sheet: Sheet, spot: usize, value: u64) -> Sheet {
         3 => next.desks = value as usize,
         4 => next.used = value as usize,
         5 => next.marks[i % Sheet::MARKS] = value,
-        6 => next.sets[i % Sheet::PLACES] = value,
+        6 => next.sets[i % Sheet::SETS] = value,
         7 => next.owners[i % Sheet::PLACES] = value as usize,
         8 => next = Sheet::fresh(0, 0, 0),
         _ => {}

@@ -5,11 +5,12 @@ use sheet::Sheet;
 pub fn same(a: Sheet, b: Sheet) -> bool {
     let mut differ = (a.d ^ b.d) | (a.rows ^ b.rows) | (a.desks ^ b.desks) | (a.used ^ b.used);
     let mut next: usize = 0;
-    while next < Sheet::PLACES {
+    while next < Sheet::SETS {
         let i = next;
         next += 1;
+        let place = i % Sheet::PLACES;
         let word = i % Sheet::MARKS;
-        differ |= a.owners[i] ^ b.owners[i];
+        differ |= a.owners[place] ^ b.owners[place];
         differ |= ((a.sets[i] ^ b.sets[i]) | (a.marks[word] ^ b.marks[word])) as usize;
     }
     differ == 0

@@ -1,6 +1,5 @@
 -- `cell` meets its contract. Assumes nothing.
-use mathlib.Core.Path.{refl, _∙_}
-use Rattle.files.specs.Files.{cellIn}
+use Rattle.files.proofs.CellLaws.{cell-holds}
 use borrow.Author.Needs.{needs}
 use Rattle.files.proofs.cell.Statement.{statement}
 use Rattle.files.proofs.cell.Tie as tie
@@ -15,8 +14,9 @@ known-requires : tie.Need-known-requires
 known-requires c κs = search needs
 
 returns : tie.Need-returns
-unfolding cellIn
-returns c = c .known .ensures ∙ (rw (c .before .before .row .ensures, c .before .union .ensures, c .before .before .before .before .pre .0) refl)
+returns c =
+    let e = c .before .before .before .before in
+    cell-holds _ _ _ _ _ _ (e .pre .0) (c .before .before .row .ensures) (c .before .union .ensures) (c .known .ensures)
 
 pub cell-spec : {M : Type 1} → statement M
 cell-spec = tie.close (tie.spec row-requires union-requires known-requires returns)

@@ -1,12 +1,15 @@
 -- `fill` meets its contract. The invariant: the cells before the next stand at the front. Assumes nothing.
-use Prim.Native.Nat.{_+_, _-_, _≤_, _<_}
-use mathlib.Core.Path.{_≡_, refl, _∙_}
-use mathlib.Core.List.{_++_}
+use Prim.Native.Nat.{ℕ, _+_, _-_, _*_, _≤_, _<_}
+use mathlib.Core.Path.{_≡_, sym, ap, _∙_, subst}
+use mathlib.Core.List.{List, _++_}
 use native.Mathlib.Omega.{arith}
 use borrow.Author.Needs.{needs}
 use lib.ListN.{length, drop}
+use Rattle.sets.specs.Rows.{rowWords, rowsOf, inWords, putRow}
+use Rattle.sets.proofs.LentRows.{rows-as-long}
 use Rattle.files.specs.Rows.{listTo}
 use Rattle.files.specs.Files.{cellIn}
+use Rattle.files.proofs.CellLaws.{cell-holds}
 use Rattle.files.proofs.Filling.{Filling, filling-start, filling-next, filling-end}
 use Rattle.files.proofs.fill.Statement.{statement}
 use Rattle.files.proofs.fill.Tie as tie
@@ -29,13 +32,11 @@ row-requires c κs = omega (arith, c .loop-test .taken, c .before .before .befor
 known-requires : tie.Need-known-requires Inv-loop μ-loop
 known-requires c κs = search needs
 
-mul-rows : tie.Need-mul-rows Inv-loop μ-loop
-mul-rows c = search needs
-
-slice-write-rows : tie.Need-slice-write-rows Inv-loop μ-loop
-slice-write-rows c =
-    let e = c .before .before .before .before .before .before .before in
-    omega (arith, c .before .before .before .loop .inv .1 .long, c .before .before .loop-test .taken, e .pre .2)
+put-row-requires : tie.Need-put-row-requires Inv-loop μ-loop
+put-row-requires c κs =
+    let at = c .before .before .before .before in
+    let e = at .before .before .before .before in
+    omega (arith, rows-as-long (at .loop .rows) (e .args .rows .now) (at .loop .inv .1 .long), c .before .before .before .loop-test .taken, e .pre .2)
 
 add-next : tie.Need-add-next Inv-loop μ-loop
 add-next c = search needs
@@ -44,14 +45,19 @@ loop-less : tie.Need-loop-less Inv-loop μ-loop
 loop-less c = search needs
 
 loop-again : tie.Need-loop-again Inv-loop μ-loop
-unfolding cellIn
-loop-again c = let e = c .before .before .before .before .before .before .before in
-    let l = c .before .before .before .loop in
-    let less = c .before .before .loop-test .taken in
-    let same : c .known .result ≡ cellIn (e .args .file .now) (l .next) =
-    c .known .ensures ∙ (rw (c .before .row .ensures, c .before .before .before .before .union .ensures, e .pre .0) refl) in
-    let inside : l .next < length (e .args .rows .now) = omega (arith, less, e .pre .2) in
-    (omega (arith, less), rw same (filling-next (cellIn (e .args .file .now)) (e .args .rows .now) (l .rows) (l .next) (l .inv .1) inside))
+loop-again c =
+    let k = c .before .before .before in
+    let at = k .before .before .before .before in
+    let e = at .before .before .before .before in
+    let l = at .loop in
+    let less = k .before .before .before .loop-test .taken in
+    let cell = cell-holds _ _ _ _ _ _ (e .pre .0) (k .before .before .row .ensures) (at .before .union .ensures) (k .known .ensures) .0 in
+    let inside : l .next < length (rowsOf (e .args .rows .now)) = omega (arith, less, e .pre .2) in
+    let put = c .before .before .put-row .ensures ∙ ap (putRow (l .rows) (l .next)) cell in (
+      omega (arith, less),
+      subst (λ (ws : List ℕ). Filling (cellIn (e .args .file .now)) (e .args .rows .now) ws (l .next + 1)) (sym put)
+          (filling-next (cellIn (e .args .file .now)) (e .args .rows .now) (l .rows) (l .next) (l .inv .1) inside),
+    )
 
 same-length : tie.Need-same-length Inv-loop μ-loop
 same-length c = c .before .loop .inv .1 .long
@@ -61,7 +67,7 @@ returns c = let e = c .before .before .before .before .before in
     let l = c .before .loop in
     let all : l .next ≡ e .args .t = omega (arith, l .inv .0, c .loop-test .left) in
     filling-end (cellIn (e .args .file .now)) (e .args .rows .now) (l .rows) (l .next) (l .inv .1)
-    ∙ (λ i. listTo (cellIn (e .args .file .now)) ((all ∙ e .pre .0) i) ++ drop (all i) (e .args .rows .now))
+    ∙ (λ i. inWords (listTo (cellIn (e .args .file .now)) ((all ∙ e .pre .0) i)) ++ drop (all i * rowWords) (e .args .rows .now))
 
 pub fill-spec : {M : Type 1} → statement M
 fill-spec =
@@ -73,8 +79,7 @@ fill-spec =
     loop-holds
     row-requires
     known-requires
-    mul-rows
-    slice-write-rows
+    put-row-requires
     add-next
     loop-less
     loop-again

@@ -1,5 +1,6 @@
 -- `read` meets its contract. Assumes nothing.
 use mathlib.Core.Path.{refl, sym, _∙_}
+use native.Mathlib.Omega.{arith}
 use borrow.Author.Tests.{lt-ltb, le-ltb}
 use Rattle.files.proofs.ReadFiles.{readable, then-places, still-refused}
 use borrow.Author.Needs.{needs}
@@ -12,27 +13,36 @@ judge-requires c κs = search needs
 enum-known-lesson : tie.Need-enum-known-lesson
 enum-known-lesson c = search needs
 
-returns : tie.Need-returns
-returns c =
-    let read = sym (c .before .before .before .before .judge .ensures) ∙ c .before .before .lesson .given .1 in
-    (sym (then-places _ _ _ _ read ∙ rw (lt-ltb _ _ (c .if1 .taken)) refl), refl)
-
-fill-requires : tie.Need-fill-requires
-fill-requires c κs =
-    let R = readable _ _ _ (sym (c .before .before .before .before .before .judge .ensures) ∙ c .before .before .before .lesson .given .1) in
-    (R .count, R .long, c .before .if1 .left)
-
-enum-known-lesson-2 : tie.Need-enum-known-lesson-2
-enum-known-lesson-2 c = search needs
+row-count-requires : tie.Need-row-count-requires
+row-count-requires c κs = search needs
 
 same-length : tie.Need-same-length
 same-length c = search needs
 
+returns : tie.Need-returns
+returns c =
+    let at = c .before in
+    let read = sym (at .before .before .before .before .before .judge .ensures) ∙ at .before .before .before .lesson .given .1 in
+    (sym (then-places _ _ _ _ read ∙ rw (sym (at .row-count .ensures), lt-ltb _ _ (c .if1 .taken)) refl), refl)
+
+fill-requires : tie.Need-fill-requires
+fill-requires c κs =
+    let at = c .before .before in
+    let R = readable _ _ _ (sym (at .before .before .before .before .before .judge .ensures) ∙ at .before .before .before .lesson .given .1) in
+    (R .count, R .long, omega (arith, at .row-count .ensures, c .before .if1 .left))
+
+enum-known-lesson-2 : tie.Need-enum-known-lesson-2
+enum-known-lesson-2 c = search needs
+
+same-length-2 : tie.Need-same-length-2
+same-length-2 c = search needs
+
 returns-2 : tie.Need-returns-2
 returns-2 c =
     let b = c .before .before .before .before in
-    let read = sym (b .before .before .before .before .judge .ensures) ∙ b .before .before .lesson .given .1 in
-    (sym (then-places _ _ _ _ read ∙ rw (le-ltb _ _ (b .if1 .left)) refl), c .before .before .fill .ensures)
+    let at = b .before in
+    let read = sym (at .before .before .before .before .before .judge .ensures) ∙ at .before .before .before .lesson .given .1 in
+    (sym (then-places _ _ _ _ read ∙ rw (sym (at .row-count .ensures), le-ltb _ _ (b .if1 .left)) refl), c .before .before .fill .ensures)
 
 returns-3 : tie.Need-returns-3
 returns-3 c =
@@ -45,9 +55,11 @@ read-spec =
     (tie.spec
     judge-requires
     enum-known-lesson
+    row-count-requires
+    same-length
     returns
     fill-requires
     enum-known-lesson-2
-    same-length
+    same-length-2
     returns-2
     returns-3)

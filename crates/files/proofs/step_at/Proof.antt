@@ -25,7 +25,7 @@ returns : tie.Need-returns
 unfolding stepAt
 returns c =
     let read = sym (c .before .before .before .before .before .judge .ensures) ∙ c .before .before .before .lesson .given .1 in
-    rw (read, lt-ltb _ _ (c .before .if1 .taken), c .cell .ensures) refl
+    rw (read, lt-ltb _ _ (c .before .if1 .taken), c .cell .ensures .1) refl
 
 enum-told : tie.Need-enum-told
 enum-told c = search needs

@@ -2,6 +2,7 @@
 -- The borrowed sheet is opened and copied out, `foliokettle_call` gets the copy, the table and the list lent on,
 -- the sheet that it hands back is stored in the place of the old one, and the borrow is closed at it.
 -- Of `foliokettle_call` only its contract is used. Assumes nothing.
+use Rattle.sets.specs.Rows.{rowsOf}
 use Rattle.walks.proofs.Walk.{_≡_, refl, ap, ℕ, _<_, _^_, [], _∷_, List, length, URA, fullShare, named, w64, Val, vint, vptr}
 use Rattle.walks.proofs.Walk.{SProp, ent, sep, emp, via, fst∗, id⊢, GName, Lft, Share, Fml, ftrue, flft, fat, fobs, fbor}
 use Rattle.walks.proofs.Walk.{Memory, Routine, Heap, Calls, Loops, WpFn, Tables, Atoms, sem, Fun, fact, givenOf, tables, tablesOf}
@@ -144,8 +145,8 @@ module _ {M : Type 1} (𝓤 : URA M) (H : Heap 𝓤) (A : Atoms 𝓤) (W : Given
 
   -- what `foliokettle_call` ensures
   abbrev Said : Handed → List ℕ → Type 0
-  Said back last = (back ≡ handedBy (askedBy kind n) d (table .now) before desk (length (list .now)))
-      × (last ≡ listOf (askedBy kind n) d (table .now) before desk (list .now))
+  Said back last = (back ≡ handedBy (askedBy kind n) d (rowsOf (table .now)) before desk (length (list .now)))
+      × (last ≡ listOf (askedBy kind n) d (rowsOf (table .now)) before desk (list .now))
 
   -- what is left when the borrow is closed
   abbrev Left : Handed → List ℕ → List (Item 𝓤)

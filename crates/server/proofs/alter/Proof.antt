@@ -15,6 +15,7 @@ use Rattle.walks.proofs.Walk.{says, Stays, stay-ref, stay-none, stay-none-slice
 use Rattle.walks.proofs.Walk.{goes-ref, Walks, ends-at, walked, walk-meets, yes}
 use denote.Struct.Laws as struct
 use denote.Enum.Laws as enum
+use Rattle.sets.specs.Rows.{rowsOf}
 use Rattle.store.specs.Calls.{replied, told}
 use Rattle.sheet.specs.declared.Sheet.{Sheet}
 use Rattle.store.specs.declared.Call.{Call}
@@ -131,7 +132,7 @@ module _ {M : Type 1} (𝓤 : URA M) (H : Heap 𝓤) (A : Atoms 𝓤) (W : Given
   -- what `desk_call` ensures
   abbrev Said : Reply → List ℕ → Type 0
   Said reply last =
-      (reply ≡ replied d (table .now) before desk call (length (list .now))) × (last ≡ told d (table .now) before desk call (list .now) .list)
+      (reply ≡ replied d (rowsOf (table .now)) before desk call (length (list .now))) × (last ≡ told d (rowsOf (table .now)) before desk call (list .now) .list)
 
   -- what is left when the borrow is closed
   abbrev Left : Reply → List ℕ → List (Item 𝓤)

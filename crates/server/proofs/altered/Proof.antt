@@ -16,6 +16,7 @@ use Rattle.walks.proofs.Walk.{Walks, ends-at, walked, walk-meets, yes}
 use Rattle.walks.proofs.LentLocals.{lies-in, lies-out}
 use denote.Struct.Laws as struct
 use denote.Enum.Laws as enum
+use Rattle.sets.specs.Rows.{rowsOf}
 use Rattle.store.specs.Calls.{replied, told}
 use Rattle.sheet.specs.declared.Sheet.{Sheet}
 use Rattle.store.specs.declared.Call.{Call}
@@ -140,8 +141,8 @@ module _ {M : Type 1} (𝓤 : URA M) (H : Heap 𝓤) (A : Atoms 𝓤) (W : Given
   -- what `alter` ensures
   abbrev Said : Answer → Sheet → List ℕ → Type 0
   Said answer after last =
-      let reply = replied d (table .now) before desk call (length (list .now)) in
-      (answer ≡ reply .answer) × (after ≡ reply .sheet) × (last ≡ told d (table .now) before desk call (list .now) .list)
+      let reply = replied d (rowsOf (table .now)) before desk call (length (list .now)) in
+      (answer ≡ reply .answer) × (after ≡ reply .sheet) × (last ≡ told d (rowsOf (table .now)) before desk call (list .now) .list)
 
   exits : (answer : Answer) (after : Sheet) (last : List ℕ) → Said answer after last → length last ≡ length (list .now)
       → Is sheets.the-row before (before-value ∷ []) → Is calls.the-row call (call-value call ∷ [])

@@ -1,20 +1,19 @@
--- `sets::with` meets its contract: a shift of 1 by less than the width loses nothing. Assumes nothing.
-use Prim.Native.Nat.{_^_}
+-- `sets::with` meets its contract. Assumes nothing.
 use mathlib.Core.Path.{ap, _∙_}
-use native.Mathlib.Nat.{one-mul}
-use native.Mathlib.Omega.{arith}
 use lib.Bits.{bitOr}
-use lib.Pow.{shl-exact}
+use Rattle.sets.specs.Rows.{bits}
 use borrow.Author.Needs.{needs}
-use Rattle.sets.specs.Limits.{wordBits}
 use Rattle.sets.proofs.with.Statement.{statement}
 use Rattle.sets.proofs.with.Tie as tie
 
-shl-result : tie.Need-shl-result
-shl-result c = search needs
+single-requires : tie.Need-single-requires
+single-requires c κs = search needs
+
+either-requires : tie.Need-either-requires
+either-requires c κs = search needs
 
 returns : tie.Need-returns
-returns c = ap (bitOr (c .args .set)) (shl-exact 1 (c .args .v) wordBits (omega arith) (omega arith) ∙ one-mul (2 ^ c .args .v))
+returns c = c .either .ensures .0 ∙ ap (bitOr (bits (c .before .before .args .set))) (c .before .single .ensures)
 
 pub with-spec : {M : Type 1} → statement M
-with-spec = tie.close (tie.spec shl-result returns)
+with-spec = tie.close (tie.spec single-requires either-requires returns)

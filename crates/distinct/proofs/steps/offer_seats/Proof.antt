@@ -1,50 +1,76 @@
--- `offer_seats` meets its contract. Assumes nothing.
-use Prim.Native.Nat.{_-_}
-use mathlib.Core.Path.{sym, _∙_}
+-- `offer_seats` meets its contract: one row more is passed by in each turn of the loop. Assumes nothing.
+use Prim.Native.Nat.{_-_, _<_}
+use mathlib.Core.Path.{_≡_, refl, sym, _∙_}
 use native.Mathlib.Omega.{arith}
 use borrow.Author.Needs.{needs}
 use lib.ListN.{length}
+use Rattle.sets.specs.Rows.{rowsOf}
+use Rattle.theory.specs.Pairings.{at}
+use Rattle.pairing.specs.Seats.{OfSeat}
 use Rattle.distinct.proofs.Offers.{marks-same, marks-other, Offering, offering-start, offering-long, offering-end}
 use Rattle.distinct.proofs.Offers.{offering-other, offering-seated, offering-passed}
 use Rattle.distinct.proofs.steps.offer_seats.Statement.{statement}
 use Rattle.distinct.proofs.steps.offer_seats.Tie as tie
 
 abbrev Inv-loop : tie.InvT-loop
-Inv-loop marked view keep₀ seats₀ rows₀ columns₀ mates₀ next₀ keep seats rows columns mates next =
-    Offering marked view keep₀ keep next seats rows columns mates
+Inv-loop marked view keep₀ seats₀ rows₀ columns₀ mates₀ n next₀ keep seats rows columns mates next =
+    Offering marked (rowsOf view) keep₀ keep next seats (rowsOf rows) (rowsOf columns) mates
+    × (length rows ≡ length rows₀) × (length columns ≡ length columns₀)
 
 abbrev μ-loop : tie.MeasureT-loop
-μ-loop marked view keep₀ seats₀ rows₀ columns₀ mates₀ next₀ keep seats rows columns mates next = length view - next
+μ-loop marked view keep₀ seats₀ rows₀ columns₀ mates₀ n next₀ keep seats rows columns mates next = n - next
+
+abbrev start : tie.At-loop Inv-loop μ-loop → tie.Start Inv-loop μ-loop
+start l = l .before .before .before .before .before .before .before
+
+-- the next row is one of the view
+inside : (c : tie.In-loop Inv-loop μ-loop) → c .before .loop .next < length (rowsOf (start (c .before) .args .view .now))
+inside c = omega arith
+
+row-count-requires : tie.Need-row-count-requires Inv-loop μ-loop
+row-count-requires c κs = search needs
 
 loop-holds : tie.Need-loop-holds Inv-loop μ-loop
-loop-holds c = let e = c .before .before .before .before .before in offering-start (e .args .marked) (e .pre)
+loop-holds c = let e = c .before .before .before .before .before .before in (offering-start (e .args .marked) (e .pre), refl, refl)
 
 add-next : tie.Need-add-next Inv-loop μ-loop
 add-next c = search needs
 
 slice-read-if1 : tie.Need-slice-read-if1 Inv-loop μ-loop
-slice-read-if1 c = omega (arith, offering-long _ (c .before .before .loop .inv))
+slice-read-if1 c = omega (arith, offering-long _ (c .before .before .loop .inv .0), inside (c .before))
 
-mul-offer : tie.Need-mul-offer Inv-loop μ-loop
-mul-offer c = search needs
+row-at-requires : tie.Need-row-at-requires Inv-loop μ-loop
+row-at-requires c κs = inside (c .before .before)
 
-shared-slice-read-offer : tie.Need-shared-slice-read-offer Inv-loop μ-loop
-shared-slice-read-offer c = search needs
+offer-requires : tie.Need-offer-requires Inv-loop μ-loop
+offer-requires c κs =
+    let r = c .before .before .before in
+    let l = r .before .before .before .before .loop in
+    (l .inv .0 .pairs .sits, rw (r .row-at .ensures .0) (l .inv .0 .pairs .small (l .next)))
 
--- the loop's row, seen from the place where it has been offered a seat
-abbrev turn : tie.After-offer Inv-loop μ-loop → tie.Then1 Inv-loop μ-loop
-turn c = c .before .before .before .before .before
+-- ---- the loop's row, seen from the place where it has been offered a seat
+
+abbrev row-of : tie.After-offer Inv-loop μ-loop → tie.After-row-at Inv-loop μ-loop
+row-of c = c .before .before .before .before
+
+abbrev loop-of : tie.After-offer Inv-loop μ-loop → tie.In-loop Inv-loop μ-loop
+loop-of c = row-of c .before .before .before
 
 abbrev offered-at : tie.After-struct-known Inv-loop μ-loop → tie.After-offer Inv-loop μ-loop
 offered-at c = c .before .before .before .before .before .before .before
 
-offer-requires : tie.Need-offer-requires Inv-loop μ-loop
-offer-requires c κs = let l = c .before .before .before .before .before .before .before .loop in (l .inv .pairs .sits, l .inv .pairs .small (l .next))
+answer : (c : tie.After-offer Inv-loop μ-loop) → let l = loop-of c .before in
+    OfSeat (at (rowsOf (start l .args .view .now)) (l .loop .next)) (l .loop .seats) (rowsOf (l .loop .rows)) (c .offer .result)
+    (rowsOf (c .offer .last .1 .1 .0)) (rowsOf (c .offer .last .1 .1 .1 .0)) (c .offer .last .1 .1 .1 .1 .0)
+answer c = rw (row-of c .row-at .ensures .0) at (c .offer .ensures)
+
+-- the words for rows and columns are as many as before
+as-long : (c : tie.After-offer Inv-loop μ-loop) → let e = start (loop-of c .before) .args in
+    (length (c .offer .last .1 .1 .0) ≡ length (e .rows .now)) × (length (c .offer .last .1 .1 .1 .0) ≡ length (e .columns .now))
+as-long c = let l = loop-of c .before .loop .inv in (c .offer .kept .1 .1 .0 ∙ l .1, c .offer .kept .1 .1 .1 .0 ∙ l .2)
 
 slice-write-keep : tie.Need-slice-write-keep Inv-loop μ-loop
-slice-write-keep c =
-    let t = turn (offered-at (c .before)) .before .before in
-    omega (arith, offering-long _ (t .before .loop .inv), t .loop-test .taken)
+slice-write-keep c = let t = loop-of (offered-at (c .before)) in omega (arith, offering-long _ (t .before .loop .inv .0), inside t)
 
 loop-less : tie.Need-loop-less Inv-loop μ-loop
 loop-less c = search needs
@@ -52,8 +78,9 @@ loop-less c = search needs
 loop-again : tie.Need-loop-again Inv-loop μ-loop
 loop-again c =
     let o = offered-at (c .before) in
-    let t = turn o .before .before in
-    offering-seated (t .loop-test .taken) (o .offer .ensures) _ (t .before .loop .inv) (marks-same _ _ (turn o .if1 .taken)) (c .if2 .taken)
+    let t = loop-of o in
+    let same = marks-same _ _ (row-of o .before .if1 .taken) in
+    (offering-seated (inside t) (answer o) _ (t .before .loop .inv .0) same (c .if2 .taken), as-long o .0, as-long o .1)
 
 loop-less-2 : tie.Need-loop-less-2 Inv-loop μ-loop
 loop-less-2 c = search needs
@@ -61,34 +88,34 @@ loop-less-2 c = search needs
 loop-again-2 : tie.Need-loop-again-2 Inv-loop μ-loop
 loop-again-2 c =
     let o = offered-at (c .before) in
-    let t = turn o .before .before in
-    offering-passed (t .loop-test .taken) (o .offer .ensures) _ (t .before .loop .inv) (marks-same _ _ (turn o .if1 .taken)) (c .if2 .left)
+    let t = loop-of o in
+    let same = marks-same _ _ (row-of o .before .if1 .taken) in
+    (offering-passed (inside t) (answer o) _ (t .before .loop .inv .0) same (c .if2 .left), as-long o .0, as-long o .1)
 
 loop-less-3 : tie.Need-loop-less-3 Inv-loop μ-loop
 loop-less-3 c = search needs
 
 loop-again-3 : tie.Need-loop-again-3 Inv-loop μ-loop
-loop-again-3 c = let t = c .before .before in offering-other (t .loop-test .taken) _ (t .before .loop .inv) (marks-other _ _ (c .if1 .left))
-
--- the entry, seen from the loop's end
-abbrev start : tie.After-loop Inv-loop μ-loop → tie.Start Inv-loop μ-loop
-start c = c .before .before .before .before .before .before .before
+loop-again-3 c =
+    let t = c .before .before in
+    let l = t .before .loop .inv in
+    (offering-other (inside t) _ (l .0) (marks-other _ _ (c .if1 .left)), l .1, l .2)
 
 same-length : tie.Need-same-length Inv-loop μ-loop
 same-length c =
-    offering-long _ (c .before .loop .inv) ∙ sym (offering-long _ (offering-start _ (start c .pre)))
+    offering-long _ (c .before .loop .inv .0) ∙ sym (offering-long _ (offering-start _ (start (c .before) .pre)))
 
 same-length-2 : tie.Need-same-length-2 Inv-loop μ-loop
-same-length-2 c = c .before .loop .inv .pairs .sits .rows-wide ∙ sym (start c .pre .sits .rows-wide)
+same-length-2 c = c .before .loop .inv .1
 
 same-length-3 : tie.Need-same-length-3 Inv-loop μ-loop
-same-length-3 c = c .before .loop .inv .pairs .sits .bench .index .wide ∙ sym (start c .pre .sits .bench .index .wide)
+same-length-3 c = c .before .loop .inv .2
 
 same-length-4 : tie.Need-same-length-4 Inv-loop μ-loop
-same-length-4 c = c .before .loop .inv .pairs .sits .mates-wide ∙ sym (start c .pre .sits .mates-wide)
+same-length-4 c = c .before .loop .inv .0 .pairs .sits .mates-wide ∙ sym (start (c .before) .pre .sits .mates-wide)
 
 returns : tie.Need-returns Inv-loop μ-loop
-returns c = offering-end _ (c .before .loop .inv) (c .loop-test .left)
+returns c = let l = c .before in offering-end _ (l .loop .inv .0) (omega (arith, c .loop-test .left, l .before .row-count .ensures))
 
 pub offer-seats-spec : {M : Type 1} → statement M
 offer-seats-spec =
@@ -96,11 +123,11 @@ offer-seats-spec =
     (tie.spec
     Inv-loop
     μ-loop
+    row-count-requires
     loop-holds
     add-next
     slice-read-if1
-    mul-offer
-    shared-slice-read-offer
+    row-at-requires
     offer-requires
     slice-write-keep
     loop-less

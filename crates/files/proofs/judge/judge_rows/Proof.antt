@@ -2,6 +2,7 @@
 use mathlib.Core.Path.{sym, _∙_}
 use Rattle.files.proofs.RowsJudged.{over, no-rows, unknown, known}
 use borrow.Author.Needs.{needs}
+use borrow.Author.Tests.{eqb-true, eqb-false}
 use Rattle.files.proofs.judge.judge_rows.Statement.{statement}
 use Rattle.files.proofs.judge.judge_rows.Tie as tie
 
@@ -23,12 +24,16 @@ returns c =
 union-requires : tie.Need-union-requires
 union-requires c κs = search needs
 
+is-empty-requires : tie.Need-is-empty-requires
+is-empty-requires c κs = search needs
+
 returns-2 : tie.Need-returns-2
 returns-2 c =
-    let e = c .before .before .before .before .before .before .before in
-    let none = sym (c .before .before .before .before .before .over .ensures) ∙ c .before .before .before .enum-told .given .1 in
-    let some = c .before .before .if1 .left in
-    sym (unknown (e .args .file .now) (e .args .d) (e .args .t) (e .pre .0) (e .pre .1) _ none some (sym (c .before .union .ensures) ∙ c .if2 .taken))
+    let e = c .before .before .before .before .before .before .before .before in
+    let none = sym (c .before .before .before .before .before .before .over .ensures) ∙ c .before .before .before .before .enum-told .given .1 in
+    let some = c .before .before .before .if1 .left in
+    let all = c .before .before .union .ensures .0 in
+    sym (unknown (e .args .file .now) (e .args .d) (e .args .t) (e .pre .0) (e .pre .1) _ none some (sym all ∙ eqb-true _ _ (sym (c .before .is-empty .ensures) ∙ c .if2 .taken)))
 
 returns-3 : tie.Need-returns-3
 returns-3 c =
@@ -38,10 +43,11 @@ returns-3 c =
 
 returns-4 : tie.Need-returns-4
 returns-4 c =
-    let e = c .before .before .before .before .before .before .before in
-    let none = sym (c .before .before .before .before .before .over .ensures) ∙ c .before .before .before .enum-told .given .1 in
-    let some = c .before .before .if1 .left in
-    sym (known (e .args .file .now) (e .args .d) (e .args .t) (e .pre .0) (e .pre .1) _ none some (λ z. c .if2 .left (c .before .union .ensures ∙ z)))
+    let e = c .before .before .before .before .before .before .before .before in
+    let none = sym (c .before .before .before .before .before .before .over .ensures) ∙ c .before .before .before .before .enum-told .given .1 in
+    let some = c .before .before .before .if1 .left in
+    let all = c .before .before .union .ensures .0 in
+    sym (known (e .args .file .now) (e .args .d) (e .args .t) (e .pre .0) (e .pre .1) _ none some (λ z. eqb-false _ _ (sym (c .before .is-empty .ensures) ∙ c .if2 .left) (all ∙ z)))
 
 pub judge-rows-spec : {M : Type 1} → statement M
 judge-rows-spec =
@@ -52,6 +58,7 @@ judge-rows-spec =
     enum-told
     returns
     union-requires
+    is-empty-requires
     returns-2
     returns-3
     returns-4)

@@ -32,7 +32,7 @@ returns : tie.Need-returns Inv-loop μ-loop
 returns c = let e = c .before .before .before .before .before .before in
     let l = c .before .before .before .before .loop in
     let f : ℕ → Bool = λ i. not (below (e .args .d) (rowIn (e .args .file .now) i)) in
-    let here = ap (λ (r : ℕ). not (below (e .args .d) r)) (sym (c .before .before .row .ensures))
+    let here = ap (λ (r : ℕ). not (below (e .args .d) r)) (sym (c .before .before .row .ensures .0))
     ∙ ap not (sym (c .before .below .ensures)) ∙ c .if1 .taken in
     let k = e .args .n - (l .next + 1) in
     let all : k + (l .next + 1) ≡ e .args .n = omega (arith, c .before .before .before .loop-test .taken) in
@@ -48,7 +48,7 @@ loop-again : tie.Need-loop-again Inv-loop μ-loop
 loop-again c = let e = c .before .before .before .before .before .before in
     let l = c .before .before .before .before .loop in
     let f : ℕ → Bool = λ i. not (below (e .args .d) (rowIn (e .args .file .now) i)) in
-    let here = ap (λ (r : ℕ). not (below (e .args .d) r)) (sym (c .before .before .row .ensures))
+    let here = ap (λ (r : ℕ). not (below (e .args .d) r)) (sym (c .before .before .row .ensures .0))
     ∙ ap not (sym (c .before .below .ensures)) ∙ c .if1 .left in
     (omega (arith, c .before .before .before .loop-test .taken), lowest-pass f (l .next) (l .inv .1) here)
 

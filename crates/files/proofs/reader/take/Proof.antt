@@ -20,15 +20,15 @@ use denote.Enum.Laws as enum
 use denote.Struct.Laws as struct
 use Rattle.files.specs.Turns.{stepAt, moved}
 use Rattle.files.specs.declared.reader.Reader.{Reader}
-use Rattle.files.specs.declared.Row.{Row}
+use Rattle.files.specs.declared.NextRow.{NextRow}
 use Rattle.files.specs.declared.Step.{Step}
 use Rattle.files.proofs.MadeReader.{file-value, reader-value, lifetime, ReaderType, made, FileOwn, made-owns}
 use Rattle.files.proofs.reader.Reader as readers
 use Rattle.files.proofs.reader.Reader.Laws as reader-laws
 use Rattle.files.proofs.Step as steps
 use Rattle.files.proofs.Step.Laws as step-laws
-use Rattle.files.proofs.Row as rows
-use Rattle.files.proofs.Row.Laws as row-laws
+use Rattle.files.proofs.NextRow as rows
+use Rattle.files.proofs.NextRow.Laws as row-laws
 use Rattle.files.proofs.reader.Reader.next as next
 use Rattle.files.proofs.reader.Reader.next.Symbol as next-def
 use Rattle.files.proofs.reader.Reader.next.Symbol.{name as #next}
@@ -46,10 +46,10 @@ abbrev Next : {M : Type 1} (𝓤 : URA M) (H : Heap 𝓤) (A : Atoms 𝓤) (mem 
 Next 𝓤 H A mem run = tripleOf 𝓤 H A next.signature (next.spec 𝓤 H A mem run)
 
 -- the step of a row and the reader after it, and its machine value
-abbrev step : Row → Reader → Step
+abbrev step : NextRow → Reader → Step
 step row after = record { row = row; next = after .at }
 
-abbrev step-value : Row → Reader → Val
+abbrev step-value : NextRow → Reader → Val
 step-value row after = struct.val steps.the-type step-laws.the-laws (step row after)
 
 module _ {M : Type 1} (𝓤 : URA M) (H : Heap 𝓤) (A : Atoms 𝓤) (W : Given 𝓤 H A) (at-mem : Memory → SProp 𝓤) (run : Routine → Fun 𝓤)
@@ -112,20 +112,20 @@ module _ {M : Type 1} (𝓤 : URA M) (H : Heap 𝓤) (A : Atoms 𝓤) (W : Given
       nothing ! $ move ! (2 ∷ 0 ∷ []) $ fjoin ! $ move ! (1 ∷ 0 ∷ []) $ join ! $ frame ! $ done !
 
   -- what `next` ensures
-  abbrev Said : Row → Reader → Type 0
+  abbrev Said : NextRow → Reader → Type 0
   Said row after = (row ≡ stepAt (now file) cursor .row) × (after ≡ moved before)
 
   after-fits : (after : Reader) (values : List Val) → Is Readers after values → after .at < 2 ^ 64
   after-fits after values is = struct.owed (readers.the-type (lifetime κ-file)) (reader-laws.the-laws (lifetime κ-file)) after values is .1 .0 .1
 
   -- the step is related to its machine values, as the row and the reader are
-  step-is : (row : Row) (after : Reader) (row-values reader-values : List Val) → Is rows.the-row row row-values → Is Readers after reader-values
+  step-is : (row : NextRow) (after : Reader) (row-values reader-values : List Val) → Is rows.the-row row row-values → Is Readers after reader-values
       → Is steps.the-row (step row after) (step-value row after ∷ [])
   step-is row after row-values reader-values row-is after-is =
       let row-part = enum.owes rows.the-type row-laws.the-laws row (enum.owed rows.the-type row-laws.the-laws row row-values row-is) in
       struct.owes steps.the-type step-laws.the-laws (step row after) (row-part, ((refl, after-fits after reader-values after-is), tt))
 
-  exits : (row : Row) (after : Reader) → Said row after → Is steps.the-row (step row after) (step-value row after ∷ [])
+  exits : (row : NextRow) (after : Reader) → Said row after → Is steps.the-row (step row after) (step-value row after ∷ [])
       → ent 𝓤 (⋆ 𝓤 H A (token ∷ ‵ (FileOwn κ-file file) ∷ [])) (Post (step-value row after))
   exits row after said is =
       qed W (token ∷ ‵ (FileOwn κ-file file) ∷ []) ∵
@@ -169,7 +169,7 @@ module _ {M : Type 1} (𝓤 : URA M) (H : Heap 𝓤) (A : Atoms 𝓤) (W : Given
         use2 W (raw (Next 𝓤 H A at-mem run .pre (to-next life l₃ name))) (asked life l₃ name) $
         calls-at ! fm (Next 𝓤 H A at-mem run) known (to-next life l₃ name)
         (and-then ! (load ! (from ! (stop !)) (look ! 6 refl)) (no-more !)) (λ value.
-        use1 W (later (some (λ (row : Row). (tokens life ⊛ ‵ (rows.the-row .own row (value ∷ [])))
+        use1 W (later (some (λ (row : NextRow). (tokens life ⊛ ‵ (rows.the-row .own row (value ∷ [])))
         ⊛ raw (ensured 𝓤 H A next.ended (next.clauses 𝓤 H A at-mem run) (life ∷ κ-file, (κ-file, tt)) (passed l₃ name) tt row)))) (id⊢ 𝓤 _) $
         await ! tt $ pick ! (λ row. split ! $ move ! (1 ∷ []) $
         use1 W (some (λ (lasting : Reader × Unit {0}). ‵ (lasts next.ended (life ∷ κ-file, (κ-file, tt)) (passed l₃ name) lasting)

@@ -10,6 +10,9 @@ enum-told c = search needs
 enum-known-answer : tie.Need-enum-known-answer
 enum-known-answer c = search needs
 
+as-word-requires : tie.Need-as-word-requires
+as-word-requires c κs = search needs
+
 enum-known-answer-2 : tie.Need-enum-known-answer-2
 enum-known-answer-2 c = search needs
 
@@ -29,7 +32,7 @@ returns : tie.Need-returns
 returns c = rw (c .enum-told .given .1) refl
 
 returns-2 : tie.Need-returns-2
-returns-2 c = rw (c .before .answer .given .1) refl
+returns-2 c = rw (c .before .before .answer .given .1, c .as-word .ensures) refl
 
 returns-3 : tie.Need-returns-3
 returns-3 c = rw (c .before .answer2 .given .1) refl
@@ -46,6 +49,7 @@ tell-spec =
     (tie.spec
     enum-told
     enum-known-answer
+    as-word-requires
     enum-known-answer-2
     enum-known-answer-3
     enum-known-answer-4

@@ -1,78 +1,93 @@
--- `minimal::none_within` meets its contract. The invariant of both loops: none of the rows before `next` is a subset of x. Assumes nothing.
+-- `minimal::none_within` meets its contract. The invariant of both loops: each row before `next` has a value that x has not. Assumes nothing.
 use Prim.Native.Nat.{_-_, _≤_}
-use native.Mathlib.Nat.{not-suc-le-zero}
+use mathlib.Core.Path.{refl, sym, _∙_}
+use native.Mathlib.Nat.{lt-of-lt-of-le}
 use native.Mathlib.Omega.{arith}
+use borrow.Author.Count.{below-none}
 use borrow.Author.Needs.{needs}
-use Rattle.sets.specs.Limits.{wordBits}
-use Rattle.minimal.specs.Marking.{NoneWithin}
-use Rattle.minimal.proofs.Scans.{Tells, tells, scan-some, scan-more, scan-none, four-some, four-none}
+use borrow.Author.Tests.{not-true, not-false}
+use Rattle.sets.specs.Rows.{bits, rowsOf}
+use Rattle.minimal.proofs.Apart.{read-meets}
+use Rattle.minimal.proofs.Scans.{AllMeet, meet-more, four-none, four-some, scan-some, scan-none}
 use Rattle.minimal.proofs.sieve.none_within.Statement.{statement}
 use Rattle.minimal.proofs.sieve.none_within.Tie as tie
 
 abbrev Inv-loop : tie.InvT-loop
-Inv-loop mins found x others next₀ next = (next ≤ found) × Tells mins others x × NoneWithin mins next x
+Inv-loop mins found others next₀ next = (next ≤ found) × AllMeet (rowsOf mins) (bits others) next
 
 abbrev μ-loop : tie.MeasureT-loop
-μ-loop mins found x others next₀ next = found - next
+μ-loop mins found others next₀ next = found - next
 
 abbrev Inv-loop2 : tie.InvT-loop2
-Inv-loop2 mins found x others next₀ next = (next ≤ found) × Tells mins others x × NoneWithin mins next x
+Inv-loop2 mins found others next₀ next = (next ≤ found) × AllMeet (rowsOf mins) (bits others) next
 
 abbrev μ-loop2 : tie.MeasureT-loop2
-μ-loop2 mins found x others next₀ next = found - next
+μ-loop2 mins found others next₀ next = found - next
+
+abbrev start : tie.After-minus Inv-loop μ-loop Inv-loop2 μ-loop2 → tie.Start Inv-loop μ-loop Inv-loop2 μ-loop2
+start c = c .before .before .before
 
 all-requires : tie.Need-all-requires Inv-loop μ-loop Inv-loop2 μ-loop2
-all-requires c κs = omega arith
+all-requires c κs = search needs
 
 minus-requires : tie.Need-minus-requires Inv-loop μ-loop Inv-loop2 μ-loop2
-minus-requires c κs = tt
+minus-requires c κs = search needs
 
 loop-holds : tie.Need-loop-holds Inv-loop μ-loop Inv-loop2 μ-loop2
-loop-holds c =
-    let e = c .before .before .before in
-    (omega arith, tells wordBits (e .args .mins .now) (c .before .all .result) (c .minus .result) (e .args .x) (λ m l. c .before .before .shared-slice-known .given m .fits) (c .before .all .ensures) (c .minus .ensures), λ m h. absurd (not-suc-le-zero h))
+loop-holds c = (omega arith, below-none _)
 
 sub-loop : tie.Need-sub-loop Inv-loop μ-loop Inv-loop2 μ-loop2
 sub-loop c = search needs
 
-mul-a : tie.Need-mul-a Inv-loop μ-loop Inv-loop2 μ-loop2
-mul-a c = search needs
+row-at-requires : tie.Need-row-at-requires Inv-loop μ-loop Inv-loop2 μ-loop2
+row-at-requires c κs = search needs
 
-shared-slice-read-a : tie.Need-shared-slice-read-a Inv-loop μ-loop Inv-loop2 μ-loop2
-shared-slice-read-a c = search needs
+meets-requires : tie.Need-meets-requires Inv-loop μ-loop Inv-loop2 μ-loop2
+meets-requires c κs = search needs
 
-add-b : tie.Need-add-b Inv-loop μ-loop Inv-loop2 μ-loop2
-add-b c = search needs
+add-row-at : tie.Need-add-row-at Inv-loop μ-loop Inv-loop2 μ-loop2
+add-row-at c = search needs
 
-mul-b : tie.Need-mul-b Inv-loop μ-loop Inv-loop2 μ-loop2
-mul-b c = search needs
+row-at-requires-2 : tie.Need-row-at-requires-2 Inv-loop μ-loop Inv-loop2 μ-loop2
+row-at-requires-2 c κs = search needs
 
-shared-slice-read-b : tie.Need-shared-slice-read-b Inv-loop μ-loop Inv-loop2 μ-loop2
-shared-slice-read-b c = search needs
+meets-requires-2 : tie.Need-meets-requires-2 Inv-loop μ-loop Inv-loop2 μ-loop2
+meets-requires-2 c κs = search needs
 
-add-c : tie.Need-add-c Inv-loop μ-loop Inv-loop2 μ-loop2
-add-c c = search needs
+add-row-at-2 : tie.Need-add-row-at-2 Inv-loop μ-loop Inv-loop2 μ-loop2
+add-row-at-2 c = search needs
 
-mul-c : tie.Need-mul-c Inv-loop μ-loop Inv-loop2 μ-loop2
-mul-c c = search needs
+row-at-requires-3 : tie.Need-row-at-requires-3 Inv-loop μ-loop Inv-loop2 μ-loop2
+row-at-requires-3 c κs = search needs
 
-shared-slice-read-c : tie.Need-shared-slice-read-c Inv-loop μ-loop Inv-loop2 μ-loop2
-shared-slice-read-c c = search needs
+meets-requires-3 : tie.Need-meets-requires-3 Inv-loop μ-loop Inv-loop2 μ-loop2
+meets-requires-3 c κs = search needs
 
-add-d : tie.Need-add-d Inv-loop μ-loop Inv-loop2 μ-loop2
-add-d c = search needs
+add-row-at-3 : tie.Need-add-row-at-3 Inv-loop μ-loop Inv-loop2 μ-loop2
+add-row-at-3 c = search needs
 
-mul-d : tie.Need-mul-d Inv-loop μ-loop Inv-loop2 μ-loop2
-mul-d c = search needs
+row-at-requires-4 : tie.Need-row-at-requires-4 Inv-loop μ-loop Inv-loop2 μ-loop2
+row-at-requires-4 c κs = search needs
 
-shared-slice-read-d : tie.Need-shared-slice-read-d Inv-loop μ-loop Inv-loop2 μ-loop2
-shared-slice-read-d c = search needs
+meets-requires-4 : tie.Need-meets-requires-4 Inv-loop μ-loop Inv-loop2 μ-loop2
+meets-requires-4 c κs = search needs
 
 returns : tie.Need-returns Inv-loop μ-loop Inv-loop2 μ-loop2
 returns c =
-    let l = c .before .before .before .before .before .before in
-    let e = l .before .before .before .before in
-    four-some (l .loop .inv .1) (e .args .found) (l .loop .next) (omega arith) (e .pre) (c .if1 .taken)
+    let d = c .before in
+    let t = d .before .before in
+    let b = t .before .before in
+    let a = b .before .before in
+    let l = a .before .before .before in
+    let made = l .before in
+    let others = bits (made .minus .result) in
+    let p = read-meets others (a .before .row-at .ensures .0) (a .meets .ensures) in
+    let q = read-meets others (b .before .row-at2 .ensures .0) (b .meets2 .ensures) in
+    let r = read-meets others (t .before .row-at3 .ensures .0) (t .meets3 .ensures) in
+    let s = read-meets others (d .before .row-at4 .ensures .0) (d .meets4 .ensures) in
+    let miss = four-some (rowsOf (start made .args .mins .now)) others (l .loop .next) p q r s (c .if1 .taken) in
+    scan-some _ _ (made .before .all .ensures) (made .minus .ensures) _ (miss .0)
+    (omega (arith, miss .1, a .before .before .loop-test .taken)) (miss .2)
 
 add-next : tie.Need-add-next Inv-loop μ-loop Inv-loop2 μ-loop2
 add-next c = search needs
@@ -82,24 +97,36 @@ loop-less c = search needs
 
 loop-again : tie.Need-loop-again Inv-loop μ-loop Inv-loop2 μ-loop2
 loop-again c =
-    let l = c .before .before .before .before .before .before in
-    let e = l .before .before .before .before in
-    (omega arith, l .loop .inv .1, four-none (l .loop .inv .1) (l .loop .next) (omega (arith, e .pre)) (l .loop .inv .2) (c .if1 .left))
+    let d = c .before in
+    let t = d .before .before in
+    let b = t .before .before in
+    let a = b .before .before in
+    let l = a .before .before .before in
+    let made = l .before in
+    let others = bits (made .minus .result) in
+    let p = read-meets others (a .before .row-at .ensures .0) (a .meets .ensures) in
+    let q = read-meets others (b .before .row-at2 .ensures .0) (b .meets2 .ensures) in
+    let r = read-meets others (t .before .row-at3 .ensures .0) (t .meets3 .ensures) in
+    let s = read-meets others (d .before .row-at4 .ensures .0) (d .meets4 .ensures) in
+    let met = four-none (rowsOf (start made .args .mins .now)) others (l .loop .next) p q r s (c .if1 .left) (l .loop .inv .1) in
+    (omega (arith, a .before .before .loop-test .taken), met)
 
 loop2-holds : tie.Need-loop2-holds Inv-loop μ-loop Inv-loop2 μ-loop2
 loop2-holds c = c .before .loop .inv
 
-mul-if2 : tie.Need-mul-if2 Inv-loop μ-loop Inv-loop2 μ-loop2
-mul-if2 c = search needs
+row-at-requires-5 : tie.Need-row-at-requires-5 Inv-loop μ-loop Inv-loop2 μ-loop2
+row-at-requires-5 c κs = search needs
 
-shared-slice-read-if2 : tie.Need-shared-slice-read-if2 Inv-loop μ-loop Inv-loop2 μ-loop2
-shared-slice-read-if2 c = search needs
+meets-requires-5 : tie.Need-meets-requires-5 Inv-loop μ-loop Inv-loop2 μ-loop2
+meets-requires-5 c κs = search needs
 
 returns-2 : tie.Need-returns-2 Inv-loop μ-loop Inv-loop2 μ-loop2
 returns-2 c =
-    let l = c .before .before .before in
-    let e = l .before .before .before .before .before .before in
-    scan-some (l .loop2 .inv .1) (e .args .found) (l .loop2 .next) (c .before .before .loop2-test .taken) (e .pre) (c .if2 .taken)
+    let read = c .before .before in
+    let made = read .before .before .before .before .before in
+    let answer = read-meets (bits (made .minus .result)) (read .row-at5 .ensures .0) (c .before .meets5 .ensures) in
+    scan-some _ _ (made .before .all .ensures) (made .minus .ensures) _ _ (read .before .loop2-test .taken)
+    (sym answer ∙ not-true _ (c .if2 .taken))
 
 add-next-2 : tie.Need-add-next-2 Inv-loop μ-loop Inv-loop2 μ-loop2
 add-next-2 c = search needs
@@ -109,15 +136,19 @@ loop2-less c = search needs
 
 loop2-again : tie.Need-loop2-again Inv-loop μ-loop Inv-loop2 μ-loop2
 loop2-again c =
-    let l = c .before .before .before in
-    let e = l .before .before .before .before .before .before in
-    (omega arith, l .loop2 .inv .1, scan-more (l .loop2 .inv .1) (l .loop2 .next) (omega (arith, e .pre)) (l .loop2 .inv .2) (c .if2 .left))
+    let read = c .before .before in
+    let l = read .before .before in
+    let made = l .before .before .before in
+    let others = bits (made .minus .result) in
+    let mins = rowsOf (start made .args .mins .now) in
+    let answer = read-meets others (read .row-at5 .ensures .0) (c .before .meets5 .ensures) in
+    (omega arith, meet-more mins others (l .loop2 .next) _ refl (l .loop2 .inv .1) (sym answer ∙ not-false _ (c .if2 .left)))
 
 returns-3 : tie.Need-returns-3 Inv-loop μ-loop Inv-loop2 μ-loop2
 returns-3 c =
     let l = c .before in
-    let e = l .before .before .before .before .before .before in
-    scan-none (l .loop2 .inv .1) (e .args .found) (l .loop2 .next) (l .loop2 .inv .2) (c .loop2-test .left)
+    let made = l .before .before .before in
+    scan-none _ _ (made .before .all .ensures) (made .minus .ensures) _ (λ m h. l .loop2 .inv .1 m (lt-of-lt-of-le h (c .loop2-test .left)))
 
 pub none-within-spec : {M : Type 1} → statement M
 none-within-spec =
@@ -131,24 +162,24 @@ none-within-spec =
     minus-requires
     loop-holds
     sub-loop
-    mul-a
-    shared-slice-read-a
-    add-b
-    mul-b
-    shared-slice-read-b
-    add-c
-    mul-c
-    shared-slice-read-c
-    add-d
-    mul-d
-    shared-slice-read-d
+    row-at-requires
+    meets-requires
+    add-row-at
+    row-at-requires-2
+    meets-requires-2
+    add-row-at-2
+    row-at-requires-3
+    meets-requires-3
+    add-row-at-3
+    row-at-requires-4
+    meets-requires-4
     returns
     add-next
     loop-less
     loop-again
     loop2-holds
-    mul-if2
-    shared-slice-read-if2
+    row-at-requires-5
+    meets-requires-5
     returns-2
     add-next-2
     loop2-less

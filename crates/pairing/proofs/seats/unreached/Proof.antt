@@ -1,24 +1,32 @@
 -- `unreached` meets its contract. The invariant: the rows before the next have been looked at. Assumes nothing.
 use borrow.Author.Needs.{needs}
-use Prim.Native.Nat.{ℕ, _+_, _-_}
-use mathlib.Core.Path.{sym, subst, _∙_}
+use Prim.Native.Nat.{_-_}
+use mathlib.Core.Path.{sym, _∙_}
 use native.Mathlib.Omega.{arith}
 use lib.ListN.{length}
 use borrow.Author.Tests.{not-true, not-false}
+use Rattle.sets.specs.Rows.{bits}
 use Rattle.sets.proofs.Bools.{not-both}
 use Rattle.theory.proofs.Places.{not-mate}
+use Rattle.pairing.proofs.AskSteps.{asked-there}
 use Rattle.pairing.proofs.SeatReach.{Reaching, reach-start, reach-end, reach-pass, reach-more}
 use Rattle.pairing.proofs.seats.unreached.Statement.{statement}
 use Rattle.pairing.proofs.seats.unreached.Tie as tie
 
 abbrev Inv-loop : tie.InvT-loop
-Inv-loop asked mates dead₀ next₀ dead next = Reaching asked mates dead next
+Inv-loop asked mates reached dead₀ next₀ dead next = Reaching (bits reached) mates (bits dead) next
 
 abbrev μ-loop : tie.MeasureT-loop
-μ-loop asked mates dead₀ next₀ dead next = length mates - next
+μ-loop asked mates reached dead₀ next₀ dead next = length mates - next
+
+row-at-requires : tie.Need-row-at-requires Inv-loop μ-loop
+row-at-requires c κs = asked-there _ (c .row-at-arg .given .0)
+
+empty-requires : tie.Need-empty-requires Inv-loop μ-loop
+empty-requires c κs = search needs
 
 loop-holds : tie.Need-loop-holds Inv-loop μ-loop
-loop-holds c = reach-start (c .before .args .asked) (c .before .args .mates .now)
+loop-holds c = rw (c .empty .ensures .0) reach-start
 
 add-next : tie.Need-add-next Inv-loop μ-loop
 add-next c = search needs
@@ -37,29 +45,27 @@ sub-with c = omega (arith, c .before .before .if1 .taken)
 
 with-requires : tie.Need-with-requires Inv-loop μ-loop
 with-requires c κs =
-    let e = c .before .before .before .before .before .before .before .args in
-    let l = c .before .before .before .before .before .loop in
-    omega (arith, c .before .before .before .before .before .before .before .pre .small (l .next), c .before .before .if1 .taken)
+    let l = c .before .before .before .before .before in
+    omega (arith, l .before .before .before .before .before .pre .small (l .loop .next), c .before .before .if1 .taken)
 
 loop-less : tie.Need-loop-less Inv-loop μ-loop
 loop-less c = search needs
 
 loop-again : tie.Need-loop-again Inv-loop μ-loop
 loop-again c =
-    let e = c .before .before .before .before .before .before .before .before .args in
-    let l = c .before .before .before .before .before .before .loop in
-    subst (λ (x : ℕ). Reaching (e .asked) (e .mates .now) x (l .next + 1)) (sym (c .with .ensures))
-    (reach-more (e .asked) (e .mates .now) (l .dead) (l .next) (l .inv) (c .before .before .before .before .before .loop-test .taken)
-    (c .before .before .before .if1 .taken) (sym (c .before .before .has .ensures) ∙ not-true _ (c .before .if2 .taken)))
+    let mated = c .before .before .before in
+    let inside = mated .before .before in
+    rw (c .with .ensures)
+    (reach-more (inside .before .loop .inv) (inside .loop-test .taken) (mated .if1 .taken)
+    (sym (c .before .before .has .ensures) ∙ not-true _ (c .before .if2 .taken)))
 
 loop-less-2 : tie.Need-loop-less-2 Inv-loop μ-loop
 loop-less-2 c = search needs
 
 loop-again-2 : tie.Need-loop-again-2 Inv-loop μ-loop
 loop-again-2 c =
-    let e = c .before .before .before .before .before .before .before .args in
-    let l = c .before .before .before .before .before .loop in
-    reach-pass (e .asked) (e .mates .now) (l .dead) (l .next) (l .inv) (c .before .before .before .before .loop-test .taken)
+    let inside = c .before .before .before .before in
+    reach-pass (inside .before .loop .inv) (inside .loop-test .taken)
     (λ u m n. not-both (sym (c .before .has .ensures) ∙ not-false _ (c .if2 .left)) n)
 
 loop-less-3 : tie.Need-loop-less-3 Inv-loop μ-loop
@@ -67,15 +73,11 @@ loop-less-3 c = search needs
 
 loop-again-3 : tie.Need-loop-again-3 Inv-loop μ-loop
 loop-again-3 c =
-    let e = c .before .before .before .before .before .args in
-    let l = c .before .before .before .loop in
-    reach-pass (e .asked) (e .mates .now) (l .dead) (l .next) (l .inv) (c .before .before .loop-test .taken) (λ u m n. not-mate (c .if1 .left) m)
+    let inside = c .before .before in
+    reach-pass (inside .before .loop .inv) (inside .loop-test .taken) (λ u m n. not-mate (c .if1 .left) m)
 
 returns : tie.Need-returns Inv-loop μ-loop
-returns c =
-    let e = c .before .before .before .args in
-    let l = c .before .loop in
-    reach-end (e .asked) (e .mates .now) (l .dead) (l .next) (l .inv) (c .loop-test .left)
+returns c = rw (← c .before .before .before .row-at .ensures .0) (reach-end (c .before .loop .inv) (c .loop-test .left))
 
 pub unreached-spec : {M : Type 1} → statement M
 unreached-spec =
@@ -83,6 +85,8 @@ unreached-spec =
     (tie.spec
     Inv-loop
     μ-loop
+    row-at-requires
+    empty-requires
     loop-holds
     add-next
     mul-mate

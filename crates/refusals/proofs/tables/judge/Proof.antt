@@ -15,9 +15,18 @@ returns-2 : tie.Need-returns-2
 unfolding decided tableCases
 returns-2 c = simp (ne-eqb _ _ (c .before .if1 .left), lt-ltb _ _ (c .if2 .taken))
 
+row-count-requires : tie.Need-row-count-requires
+row-count-requires c κs = search needs
+
 returns-3 : tie.Need-returns-3
 unfolding decided tableCases
-returns-3 c = simp (ne-eqb _ _ (c .before .before .if1 .left), le-ltb _ _ (c .before .if2 .left), lt-ltb _ _ (c .if3 .taken))
+returns-3 c =
+    simp (
+      ne-eqb _ _ (c .before .before .before .if1 .left),
+      le-ltb _ _ (c .before .before .if2 .left),
+      sym (c .before .row-count .ensures),
+      lt-ltb _ _ (c .if3 .taken),
+    )
 
 bad-row-requires : tie.Need-bad-row-requires
 bad-row-requires c κs = search needs
@@ -32,8 +41,9 @@ returns-4 : tie.Need-returns-4
 unfolding decided tableCases
 returns-4 c =
     simp (
-      ne-eqb _ _ (c .before .before .before .before .before .if1 .left),
-      le-ltb _ _ (c .before .before .before .before .if2 .left),
+      ne-eqb _ _ (c .before .before .before .before .before .before .if1 .left),
+      le-ltb _ _ (c .before .before .before .before .before .if2 .left),
+      sym (c .before .before .before .before .row-count .ensures),
       le-ltb _ _ (c .before .before .before .if3 .left),
       sym (c .before .before .bad-row .ensures) ∙ c .enum-told .given .1,
     )
@@ -42,8 +52,9 @@ returns-5 : tie.Need-returns-5
 unfolding decided tableCases
 returns-5 c =
     simp (
-      ne-eqb _ _ (c .before .before .before .before .before .before .if1 .left),
-      le-ltb _ _ (c .before .before .before .before .before .if2 .left),
+      ne-eqb _ _ (c .before .before .before .before .before .before .before .if1 .left),
+      le-ltb _ _ (c .before .before .before .before .before .before .if2 .left),
+      sym (c .before .before .before .before .before .row-count .ensures),
       le-ltb _ _ (c .before .before .before .before .if3 .left),
       sym (c .before .before .before .bad-row .ensures) ∙ c .before .bad .given .1,
     )
@@ -54,6 +65,7 @@ judge-spec =
     (tie.spec
     returns
     returns-2
+    row-count-requires
     returns-3
     bad-row-requires
     enum-told

@@ -33,7 +33,8 @@ element-write-marks c = search needs
 returns : tie.Need-returns
 unfolding hide
 returns c =
-    ap (λ (word : ℕ). set (c .before .before .args .marks .now) (c .before .before .args .desk * markWords + c .before .before .args .n / wordBits) word) (c .with .ensures)
+    let a = c .before .before .args in
+    ap (λ (word : ℕ). set (a .marks .now) (a .desk * markWords + a .n / wordBits) word) (c .with .ensures)
 
 pub hide-spec : {M : Type 1} → statement M
 hide-spec =

@@ -48,8 +48,10 @@ loop-less c = search needs
 
 loop-again : tie.Need-loop-again Inv-loop μ-loop
 loop-again c =
+    let may = c .before .before in
     simp unary-clauses
-    (marked-more (c .before .before .before .before .before .loop .inv) (c .before .before .may-hide .result) (c .before .before .may-hide .ensures) (sym (c .before .subset .ensures) ∙ not-false (c .before .subset .result) (c .if1 .left)))
+    (marked-more (may .before .before .before .loop .inv) (may .may-hide .result) (may .may-hide .ensures)
+    (sym (c .before .subset .ensures) ∙ not-false (c .before .subset .result) (c .if1 .left)))
 
 returns-2 : tie.Need-returns-2 Inv-loop μ-loop
 returns-2 c = marked-all (c .before .loop .inv) (c .loop-test .left)

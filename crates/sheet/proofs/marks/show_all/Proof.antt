@@ -42,7 +42,9 @@ loop-less c = search needs
 loop-again : tie.Need-loop-again Inv-loop μ-loop
 unfolding wiped
 loop-again c =
-    (omega arith, simp unary-clauses (ap (λ (ms : List ℕ). set ms (c .before .before .args .desk * markWords + c .before .loop .next) zero) (c .before .loop .inv .1)))
+    let l = c .before .loop in
+    let word = c .before .before .args .desk * markWords + l .next in
+    (omega arith, simp unary-clauses (ap (λ (ms : List ℕ). set ms word zero) (l .inv .1)))
 
 returns : tie.Need-returns Inv-loop μ-loop
 returns c =

@@ -1,20 +1,25 @@
 -- `rest_empty` meets its contract. The invariant: the places before the next are used, or have set 0 and owner 0. Assumes nothing.
 use Prim.Native.Nat.{_-_}
+use mathlib.Core.Path.{sym, _∙_}
 use native.Mathlib.Numerals.{unary-clauses}
+use native.Mathlib.Omega.{arith}
 use borrow.Author.Needs.{needs}
+use borrow.Author.Tests.{eqb-true, eqb-false, not-true, not-false}
 use Rattle.sets.specs.Limits.{mostPlaces}
+use Rattle.sets.specs.Rows.{rowsOf}
+use Rattle.sheet.proofs.PlaceRows.{place-rows}
 use Rattle.sheet.proofs.Surveying.{Spare, spare-start, spare-more, spare-owner, spare-set, spare-all}
 use Rattle.sheet.proofs.places.rest_empty.Statement.{statement}
 use Rattle.sheet.proofs.places.rest_empty.Tie as tie
 
 abbrev Inv-loop : tie.InvT-loop
-Inv-loop used sets owners next₀ next = Spare used sets owners next
+Inv-loop used sets owners next₀ next = Spare used (rowsOf sets) owners next
 
 abbrev μ-loop : tie.MeasureT-loop
 μ-loop used sets owners next₀ next = mostPlaces - next
 
 loop-holds : tie.Need-loop-holds Inv-loop μ-loop
-loop-holds c = spare-start (c .args .used) (c .args .sets .now) (c .args .owners .now)
+loop-holds c = spare-start (c .args .used) (rowsOf (c .args .sets .now)) (c .args .owners .now)
 
 mul-if1 : tie.Need-mul-if1 Inv-loop μ-loop
 mul-if1 c = search needs
@@ -25,16 +30,20 @@ element-copy-out-if1 c = search needs
 returns : tie.Need-returns Inv-loop μ-loop
 returns c = spare-owner (c .before .before .before .loop .inv) (c .if1 .taken) (c .before .before .loop-test .taken)
 
-mul-if2 : tie.Need-mul-if2 Inv-loop μ-loop
-mul-if2 c = search needs
+row-at-requires : tie.Need-row-at-requires Inv-loop μ-loop
+row-at-requires c κs =
+    let at = c .before .before .before .before in
+    omega (arith, place-rows (at .before .args .sets .now) (search needs), c .before .before .before .loop-test .taken)
 
-element-copy-out-if2 : tie.Need-element-copy-out-if2 Inv-loop μ-loop
-element-copy-out-if2 c = search needs
+is-empty-requires : tie.Need-is-empty-requires Inv-loop μ-loop
+is-empty-requires c κs = search needs
 
 returns-2 : tie.Need-returns-2 Inv-loop μ-loop
 returns-2 c =
-    spare-set (c .before .before .before .before .before .loop .inv) (c .before .before .if1 .left) (c .if2 .taken)
-    (c .before .before .before .before .loop-test .taken)
+    let read = c .before .before in
+    let here = read .before .before .before .before in
+    let some = eqb-false _ _ (sym (c .before .is-empty .ensures) ∙ not-true _ (c .if2 .taken)) in
+    spare-set (here .before .loop .inv) (read .before .before .if1 .left) (λ e. some (read .row-at .ensures .0 ∙ e)) (here .loop-test .taken)
 
 add-next : tie.Need-add-next Inv-loop μ-loop
 add-next c = search needs
@@ -43,7 +52,11 @@ loop-less : tie.Need-loop-less Inv-loop μ-loop
 loop-less c = search needs
 
 loop-again : tie.Need-loop-again Inv-loop μ-loop
-loop-again c = simp unary-clauses (spare-more (c .before .before .before .before .before .loop .inv) (c .before .before .if1 .left) (c .if2 .left))
+loop-again c =
+    let read = c .before .before in
+    let none = eqb-true _ _ (sym (c .before .is-empty .ensures) ∙ not-false _ (c .if2 .left)) in
+    simp unary-clauses
+    (spare-more (read .before .before .before .before .before .loop .inv) (read .before .before .if1 .left) (sym (read .row-at .ensures .0) ∙ none))
 
 returns-3 : tie.Need-returns-3 Inv-loop μ-loop
 returns-3 c = spare-all (c .before .loop .inv) (c .loop-test .left)
@@ -58,8 +71,8 @@ rest-empty-spec =
     mul-if1
     element-copy-out-if1
     returns
-    mul-if2
-    element-copy-out-if2
+    row-at-requires
+    is-empty-requires
     returns-2
     add-next
     loop-less

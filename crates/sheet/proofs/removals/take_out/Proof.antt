@@ -1,6 +1,6 @@
 -- `take_out` meets its contract: the rest closes up, and the places behind it become empty. Assumes nothing.
 use borrow.Author.Needs.{needs}
-use Rattle.sheet.proofs.ClosingPass.{closed-few, taken-out}
+use Rattle.sheet.proofs.EmptyPlaces.{closed-few, taken-out}
 use Rattle.sheet.proofs.removals.take_out.Statement.{statement}
 use Rattle.sheet.proofs.removals.take_out.Tie as tie
 

@@ -40,7 +40,8 @@ returns : tie.Need-returns Inv-loop μ-loop
 returns c =
     let a = c .before .before .before .before .args in
     let n = c .before .before .before .loop .next in
-    sym (all-fails (fits (a .counts .now)) (a .desks) n (c .before .before .loop-test .taken) (lt-leb (at (a .counts .now) n) mostHeld (c .if1 .taken)))
+    sym (all-fails (fits (a .counts .now)) (a .desks) n (c .before .before .loop-test .taken)
+    (lt-leb (at (a .counts .now) n) mostHeld (c .if1 .taken)))
 
 add-next : tie.Need-add-next Inv-loop μ-loop
 add-next c = search needs
@@ -58,7 +59,8 @@ loop-again c =
 
 returns-2 : tie.Need-returns-2 Inv-loop μ-loop
 returns-2 c =
-    sym (ap (allTo (fits (c .before .before .args .counts .now))) (omega (arith, c .before .loop .inv .0, c .loop-test .left)) ∙ c .before .loop .inv .1)
+    let l = c .before .loop in
+    sym (ap (allTo (fits (c .before .before .args .counts .now))) (omega (arith, l .inv .0, c .loop-test .left)) ∙ l .inv .1)
 
 pub none-over-spec : {M : Type 1} → statement M
 none-over-spec =

@@ -1,5 +1,5 @@
 -- `judge_change` meets its contract: each change is handed to its own part. Assumes nothing.
-use mathlib.Core.Path.{refl, ap, _∙_}
+use mathlib.Core.Path.{refl, sym, ap, _∙_}
 use native.Mathlib.Omega.{arith}
 use borrow.Author.Needs.{needs}
 use Rattle.refusals.specs.Cases.{decided}
@@ -15,8 +15,12 @@ enum-known-change c = search needs
 enum-known-target : tie.Need-enum-known-target
 enum-known-target c = search needs
 
+row-count-requires : tie.Need-row-count-requires
+row-count-requires c κs = search needs
+
 delete-table-requires : tie.Need-delete-table-requires
-delete-table-requires c κs = let L = limits _ _ _ _ _ (c .before .before .before .before .before .before .before .pre) in (L .desk, L .table-rows)
+delete-table-requires c κs =
+    let L = limits _ _ _ _ _ (c .before .before .before .before .before .before .before .before .pre) in (L .desk, omega (arith, c .row-count .ensures, L .table-rows))
 
 enum-known-target-2 : tie.Need-enum-known-target-2
 enum-known-target-2 c = search needs
@@ -53,7 +57,8 @@ enum-told c = search needs
 
 returns : tie.Need-returns
 returns c =
-    rw (c .before .before .before .before .before .change .given .1 ∙ ap Delete (c .before .before .target .given .1)) (c .delete-table .ensures)
+    rw (c .before .before .before .before .before .before .change .given .1 ∙ ap Delete (c .before .before .before .target .given .1), sym (c .before .row-count .ensures))
+    (c .delete-table .ensures)
 
 returns-2 : tie.Need-returns-2
 returns-2 c =
@@ -75,6 +80,7 @@ judge-change-spec =
     (tie.spec
     enum-known-change
     enum-known-target
+    row-count-requires
     delete-table-requires
     enum-known-target-2
     mul-delete-own

@@ -1,10 +1,16 @@
 -- `serve` meets its contract: a change is judged, and a question is answered of the view. Assumes nothing.
-use mathlib.Core.Path.{refl, sym, ap, _∙_}
+use Prim.Native.Nat.{ℕ, _≤_}
+use mathlib.Core.Path.{refl, sym, subst}
+use mathlib.Core.List.{List}
 use native.Mathlib.Omega.{arith}
 use lib.ListN.{length}
+use lib.Seq.{length-take-le}
 use borrow.Author.Needs.{needs}
+use Rattle.sets.specs.Limits.{mostInView}
+use Rattle.sets.proofs.LentRows.{rows-end, rows-zero-length}
+use Rattle.distinct.specs.Steps.{InColumn}
 use Rattle.store.proofs.Trusting.{limits, in-column}
-use Rattle.store.proofs.Serving.{served-change, served-question}
+use Rattle.store.proofs.Serving.{view-fits, view-words, served-change, served-question}
 use Rattle.store.proofs.desk.serve.Statement.{statement}
 use Rattle.store.proofs.desk.serve.Tie as tie
 
@@ -22,13 +28,17 @@ slice-aggregate-gather c = search needs
 
 gather-requires : tie.Need-gather-requires
 gather-requires c κs =
-    let L = limits _ _ _ _ _ (c .before .before .before .before .before .before .pre) in (L .desk, L .table-rows, L .used, L .share, refl)
+    let L = limits _ _ _ _ _ (c .before .before .before .before .before .before .pre) in
+    (L .desk, L .table-rows, L .used, L .share, rows-zero-length mostInView)
+
+mul-rows : tie.Need-mul-rows
+mul-rows c = search needs
 
 array-share-prefix-rows : tie.Need-array-share-prefix-rows
 array-share-prefix-rows c = search needs
 
 slice-aggregate-answer-question : tie.Need-slice-aggregate-answer-question
-slice-aggregate-answer-question c = let seen = c .before .before .gather .ensures in seen .count ∙ ap length (sym (seen .is))
+slice-aggregate-answer-question c = sym (length-take-le _ _ (rows-end _ _ (view-fits _ (c .before .before .gather .ensures))))
 
 mul-answer-question : tie.Need-mul-answer-question
 mul-answer-question c =
@@ -40,7 +50,10 @@ element-copy-out-answer-question c = limits _ _ _ _ _ (c .before .before .before
 answer-question-requires : tie.Need-answer-question-requires
 answer-question-requires c κs =
     let seen = c .before .before .before .before .gather .ensures in
-    (rw (seen .is) (rw (sym (seen .count)) (seen .most)), rw (seen .is) (in-column _ _ _ _ _ (c .before .before .before .before .before .before .before .before .before .before .before .pre) refl))
+    let e = c .before .before .before .before .before .before .before .before .before .before .before in
+    let few = subst (λ (n : ℕ). n ≤ mostInView) (seen .count) (seen .most) in
+    subst (λ (rows : List ℕ). (length rows ≤ mostInView) × InColumn (e .args .d) rows) (sym (view-words _ seen))
+    (few, in-column _ _ _ _ _ (e .pre) refl)
 
 returns : tie.Need-returns
 returns c =
@@ -66,6 +79,7 @@ serve-spec =
     enum-known-call-2
     slice-aggregate-gather
     gather-requires
+    mul-rows
     array-share-prefix-rows
     slice-aggregate-answer-question
     mul-answer-question

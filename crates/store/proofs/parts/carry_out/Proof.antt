@@ -3,6 +3,7 @@ use mathlib.Core.Path.{_≡_, sym, _∙_}
 use mathlib.Core.Bool.{true}
 use borrow.Author.Tests.{not-true, not-false}
 use borrow.Author.Needs.{needs}
+use Rattle.sets.specs.Rows.{rowsOf}
 use Rattle.sheet.specs.declared.Sheet.{Sheet}
 use Rattle.sheet.specs.Surveys.{sheetOf}
 use Rattle.store.specs.Answers.{accepted}
@@ -31,7 +32,7 @@ same-length c = search needs
 returns : tie.Need-returns
 returns c =
     let e = c .before .before .before .before .before .before .before .before .before .before .before in
-    carried-refused (e .args .d) (e .args .table .now) (sheetAt e) (e .args .desk) (e .args .call) (e .args .list .now) _ _
+    carried-refused (e .args .d) (rowsOf (e .args .table .now)) (sheetAt e) (e .args .desk) (e .args .call) (e .args .list .now) _ _
     (c .before .before .before .before .respond .ensures)
     (sym (c .before .accepted .ensures) ∙ not-true (c .before .accepted .result) (c .if1 .taken))
 
@@ -47,7 +48,7 @@ same-length-2 c = search needs
 returns-2 : tie.Need-returns-2
 returns-2 c =
     let e = c .before .before .before .before .before .before .before .before .before .before .before .before .before in
-    carried-question (e .args .d) (e .args .table .now) (sheetAt e) (e .args .desk) (e .args .call) (e .args .list .now) _ _
+    carried-question (e .args .d) (rowsOf (e .args .table .now)) (sheetAt e) (e .args .desk) (e .args .call) (e .args .list .now) _ _
     (c .before .before .before .before .before .before .respond .ensures)
     (accepted-at (c .before .before)) _ (c .enum-told .given .1)
 
@@ -63,7 +64,7 @@ same-length-3 c = search needs
 returns-3 : tie.Need-returns-3
 returns-3 c =
     let e = c .before .before .before .before .before .before .before .before .before .before .before .before .before .before .before .before .before .before in
-    carried-accepted (e .args .d) (e .args .table .now) (sheetAt e) (e .args .desk) (e .args .call) (e .args .list .now) _ _
+    carried-accepted (e .args .d) (rowsOf (e .args .table .now)) (sheetAt e) (e .args .desk) (e .args .call) (e .args .list .now) _ _
     (c .before .before .before .before .before .before .before .before .before .before .before .respond .ensures)
     (accepted-at (c .before .before .before .before .before .before .before)) _
     (rw (c .before .before .before .before .before .call .given .1) (c .make .ensures (e .args .sheetd) (e .args .rows) (e .args .desks)))

@@ -4,6 +4,7 @@ use mathlib.Core.Bool.{true}
 use lib.ListN.{length}
 use borrow.Author.Tests.{not-true, not-false}
 use borrow.Author.Needs.{needs}
+use Rattle.sets.specs.Rows.{rowsOf}
 use Rattle.sheet.specs.declared.Sheet.{Sheet}
 use Rattle.sheet.specs.Surveys.{sheetOf}
 use Rattle.store.specs.declared.Answer.the-variants.{Done, Refused}
@@ -23,7 +24,8 @@ sheetAt e =
 
 -- once the table is right
 right-at : (c : tie.Else1)
-    → let e = c .before .before .before .before .before in accepted (decided Refused (tableCases mostRows (e .args .d) (e .args .table .now)) Done) ≡ true
+    → let e = c .before .before .before .before .before in
+    accepted (decided Refused (tableCases mostRows (e .args .d) (rowsOf (e .args .table .now))) Done) ≡ true
 right-at c =
     ap accepted (sym (c .before .before .judge .ensures)) ∙ sym (c .before .accepted .ensures)
     ∙ not-false (c .before .accepted .result) (c .if1 .left)
@@ -32,14 +34,15 @@ right-at c =
 sound-at : (c : tie.Else2) → c .before .before .check .result ≡ true
 sound-at c = not-false (c .before .before .check .result) (c .if2 .left)
 
--- and the desk is there
-known-at : (c : tie.Else3) → let e = c .before .before .before .before .before .before .before .before .before .before .before .before in
+-- whether the desk is there, as the request says it
+known-is : (c : tie.After-accepted2)
+    → let e = c .before .before .before .before .before .before .before .before .before .before .before .before in
     accepted
-    (decided Refused (deskCases (e .args .d) (length (e .args .table .now)) (e .args .sheetd) (e .args .rows) (e .args .desks) (e .args .desk)) Done)
-    ≡ true
-known-at c =
-    ap accepted (sym (c .before .before .known .ensures)) ∙ sym (c .before .accepted2 .ensures)
-    ∙ not-false (c .before .accepted2 .result) (c .if3 .left)
+    (decided Refused
+    (deskCases (e .args .d) (length (rowsOf (e .args .table .now))) (e .args .sheetd) (e .args .rows) (e .args .desks) (e .args .desk)) Done)
+    ≡ c .accepted2 .result
+known-is c =
+    rw (sym (c .before .before .row-count .ensures)) (ap accepted (sym (c .before .known .ensures)) ∙ sym (c .accepted2 .ensures))
 
 judge-requires : tie.Need-judge-requires
 judge-requires c κs = search needs
@@ -50,9 +53,11 @@ accepted-requires c κs = search needs
 returns : tie.Need-returns
 returns c =
     let e = c .before .before .before .before .before in
-    let wrong = ap accepted (sym (c .before .before .judge .ensures)) ∙ sym (c .before .accepted .ensures) ∙ not-true (c .before .accepted .result) (c .if1 .taken) in
-    rw (c .before .before .judge .ensures)
-    (table-refused (e .args .d) (e .args .table .now) (sheetAt e) (e .args .desk) (e .args .call) (e .args .list .now) wrong)
+    let judged = c .before .before .judge .ensures in
+    let said = c .before .accepted in
+    rw judged
+    (table-refused (e .args .d) (rowsOf (e .args .table .now)) (sheetAt e) (e .args .desk) (e .args .call) (e .args .list .now)
+    (ap accepted (sym judged) ∙ sym (said .ensures) ∙ not-true (said .result) (c .if1 .taken)))
 
 slice-aggregate-check : tie.Need-slice-aggregate-check
 slice-aggregate-check c = search needs
@@ -62,10 +67,13 @@ check-requires c κs = search needs
 
 returns-2 : tie.Need-returns-2
 returns-2 c =
-    let e = c .before .before .before .before .before .before .before .before .before in
-    sheet-refused (e .args .d) (e .args .table .now) (sheetAt e) (e .args .desk) (e .args .call) (e .args .list .now)
-    (right-at (c .before .before .before .before))
+    let right = c .before .before .before .before in
+    let e = right .before .before .before .before .before in
+    sheet-refused (e .args .d) (rowsOf (e .args .table .now)) (sheetAt e) (e .args .desk) (e .args .call) (e .args .list .now) (right-at right)
     (sym (c .before .before .check .ensures .right-is) ∙ not-true (c .before .before .check .result) (c .if2 .taken))
+
+row-count-requires : tie.Need-row-count-requires
+row-count-requires c κs = search needs
 
 known-requires : tie.Need-known-requires
 known-requires c κs = search needs
@@ -75,30 +83,36 @@ accepted-requires-2 c κs = search needs
 
 returns-3 : tie.Need-returns-3
 returns-3 c =
-    let e = c .before .before .before .before .before .before .before .before .before .before .before .before in
-    let unknown = ap accepted (sym (c .before .before .known .ensures)) ∙ sym (c .before .accepted2 .ensures) ∙ not-true (c .before .accepted2 .result) (c .if3 .taken) in
-    rw (c .before .before .known .ensures)
-    (desk-refused (e .args .d) (e .args .table .now) (sheetAt e) (e .args .desk) (e .args .call) (e .args .list .now) (right-at (c .before .before .before .before .before .before .before)) (sym (c .before .before .before .before .before .check .ensures .right-is) ∙ sound-at (c .before .before .before)) unknown)
+    let said = c .before in
+    let sound = said .before .before .before in
+    let right = sound .before .before .before .before in
+    let e = right .before .before .before .before .before in
+    rw (said .before .known .ensures, said .before .before .row-count .ensures)
+    (desk-refused (e .args .d) (rowsOf (e .args .table .now)) (sheetAt e) (e .args .desk) (e .args .call) (e .args .list .now) (right-at right)
+    (sym (sound .before .before .check .ensures .right-is) ∙ sound-at sound) (known-is said ∙ not-true (said .accepted2 .result) (c .if3 .taken)))
 
 serve-requires : tie.Need-serve-requires
 serve-requires c κs =
-    let e = c .before .before .before .before .before .before .before .before .before .before .before .before .before .before in
-    trusted-parts (e .args .d) (e .args .table .now) (e .args .desk)
-    (right-at (c .before .before .before .before .before .before .before .before .before))
-    (c .before .before .before .before .before .before .before .check .ensures) (sound-at (c .before .before .before .before .before))
-    (known-at (c .before .before))
+    let there = c .before .before in
+    let said = there .before in
+    let sound = said .before .before .before in
+    let right = sound .before .before .before .before in
+    let e = right .before .before .before .before .before in
+    trusted-parts (e .args .d) (rowsOf (e .args .table .now)) (e .args .desk) (right-at right) (sound .before .before .check .ensures) (sound-at sound)
+    (known-is said ∙ not-false (said .accepted2 .result) (there .if3 .left))
 
 same-length : tie.Need-same-length
 same-length c = search needs
 
 returns-4 : tie.Need-returns-4
 returns-4 c =
-    let e = c .before .before .before .before .before .before .before .before .before .before .before .before .before .before .before .before .before in
-    served-responds (e .args .d) (e .args .table .now) (e .args .desk)
-    (right-at (c .before .before .before .before .before .before .before .before .before .before .before .before))
-    (c .before .before .before .before .before .before .before .before .before .before .check .ensures)
-    (sound-at (c .before .before .before .before .before .before .before .before)) (known-at (c .before .before .before .before .before))
-    (c .before .before .serve .ensures)
+    let there = c .before .before .before .before .before in
+    let said = there .before in
+    let sound = said .before .before .before in
+    let right = sound .before .before .before .before in
+    let e = right .before .before .before .before .before in
+    served-responds (e .args .d) (rowsOf (e .args .table .now)) (e .args .desk) (right-at right) (sound .before .before .check .ensures) (sound-at sound)
+    (known-is said ∙ not-false (said .accepted2 .result) (there .if3 .left)) (c .before .before .serve .ensures)
 
 pub respond-spec : {M : Type 1} → statement M
 respond-spec =
@@ -110,6 +124,7 @@ respond-spec =
     slice-aggregate-check
     check-requires
     returns-2
+    row-count-requires
     known-requires
     accepted-requires-2
     returns-3

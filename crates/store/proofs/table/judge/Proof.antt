@@ -2,6 +2,7 @@
 use mathlib.Core.Path.{sym, _∙_}
 use borrow.Author.Needs.{needs}
 use Rattle.sets.specs.Limits.{mostRows}
+use Rattle.sets.specs.Rows.{rowsOf}
 use Rattle.refusals.specs.TableCases.{tableCases}
 use Rattle.refusals.proofs.Outcomes.{stands, refuses}
 use Rattle.refusals.proofs.TablesJudged.{judged-right, judged-refused}
@@ -20,12 +21,12 @@ enum-known-judged c = search needs
 
 returns : tie.Need-returns
 returns c =
-    let cases = tableCases mostRows (c .before .before .before .before .args .d) (c .before .before .before .before .args .table .now) in
+    let cases = tableCases mostRows (c .before .before .before .before .args .d) (rowsOf (c .before .before .before .before .args .table .now)) in
     sym (stands Refused cases (judged-right cases (sym (c .before .before .judge .ensures) ∙ c .enum-told .given .1)) Done)
 
 returns-2 : tie.Need-returns-2
 returns-2 c =
-    let cases = tableCases mostRows (c .before .before .before .before .before .args .d) (c .before .before .before .before .before .args .table .now) in
+    let cases = tableCases mostRows (c .before .before .before .before .before .args .d) (rowsOf (c .before .before .before .before .before .args .table .now)) in
     sym (refuses Refused cases _ (judged-refused cases _ (sym (c .before .before .before .judge .ensures) ∙ c .before .judged .given .1)) Done)
 
 pub judge-spec : {M : Type 1} → statement M

@@ -1,26 +1,39 @@
 -- `put_own` meets its contract. The invariant: the desk's rows at the places before the next stand behind the first rows. Assumes nothing.
-use Prim.Native.Nat.{ℕ, _-_, _≤_}
+use Prim.Native.Nat.{_-_, _≤_, _<_}
 use mathlib.Core.Path.{_≡_}
-use mathlib.Core.Bool.{Bool}
+use mathlib.Core.Bool.{true}
 use native.Mathlib.Omega.{arith}
 use borrow.Author.Needs.{needs}
 use borrow.Author.Tests.{eq-eqb, ne-eqb}
+use lib.ListN.{length}
+use Rattle.sets.specs.Rows.{rowsOf}
 use Rattle.sheet.specs.Sheets.{owns}
-use Rattle.store.specs.Views.{Filled}
-use Rattle.store.proofs.Gathering.{filled-start, filled-pass, filled-more, filled-room}
+use Rattle.sheet.proofs.PlaceRows.{place-rows}
+use Rattle.store.proofs.Gathering.{Gathered, gathered-start, gathered-pass, gathered-more, gathered-room}
 use Rattle.store.proofs.view.put_own.Statement.{statement}
 use Rattle.store.proofs.view.put_own.Tie as tie
 
 abbrev Inv-loop : tie.InvT-loop
-Inv-loop desk used sets owners start rows₀ n₀ next₀ rows n next = (next ≤ used) × Filled (owns owners desk) sets next start rows₀ n rows
+Inv-loop desk used sets owners start rows₀ n₀ next₀ rows n next = (next ≤ used) × Gathered (owns owners desk) (rowsOf sets) next start rows₀ n rows
 
 abbrev μ-loop : tie.MeasureT-loop
 μ-loop desk used sets owners start rows₀ n₀ next₀ rows n next = used - next
 
+-- the desk owns the next place
+mine : (c : tie.Then1 Inv-loop μ-loop) → let here = c .before .before .before in let a = here .before .before .args in
+    owns (a .owners .now) (a .desk) (here .loop .next) ≡ true
+mine c = eq-eqb _ _ (c .if1 .taken)
+
+-- and a place is left for its row
+room : (c : tie.Then1 Inv-loop μ-loop) → let here = c .before .before .before in here .loop .n < length (rowsOf (here .loop .rows))
+room c =
+    let here = c .before .before .before in
+    let start = here .before .before in
+    gathered-room (here .loop .inv .1) (start .args .used) (c .before .before .loop-test .taken) (mine c)
+    (omega (arith, start .pre .1, start .pre .2))
+
 loop-holds : tie.Need-loop-holds Inv-loop μ-loop
-loop-holds c =
-    let e = c .args in
-    (omega arith, filled-start (owns (e .owners .now) (e .desk)) (e .sets .now) (e .start) (e .rows .now))
+loop-holds c = (omega arith, gathered-start)
 
 add-next : tie.Need-add-next Inv-loop μ-loop
 add-next c = search needs
@@ -31,73 +44,49 @@ mul-if1 c = search needs
 element-copy-out-if1 : tie.Need-element-copy-out-if1 Inv-loop μ-loop
 element-copy-out-if1 c = search needs
 
-mul-rows : tie.Need-mul-rows Inv-loop μ-loop
-mul-rows c = search needs
+row-at-requires : tie.Need-row-at-requires Inv-loop μ-loop
+row-at-requires c κs =
+    let inside = c .before .before .before .before in
+    let start = inside .before .before .before in
+    omega (arith, place-rows (start .args .sets .now) (search needs), inside .loop-test .taken, start .pre .0)
 
-element-copy-out-rows : tie.Need-element-copy-out-rows Inv-loop μ-loop
-element-copy-out-rows c = search needs
-
-mul-rows-2 : tie.Need-mul-rows-2 Inv-loop μ-loop
-mul-rows-2 c =
-    let e = c .before .before .before .before .before in
-    let l = c .before .before .before .before .loop in
-    let f : ℕ → Bool = owns (e .args .owners .now) (e .args .desk) in
-    let mine = eq-eqb _ _ (c .before .if1 .taken) in
-    let room = filled-room f (e .args .sets .now) (e .args .start) (e .args .rows .now) (l .next) (l .n) (l .rows) (l .inv .1) (e .args .used) (c .before .before .before .loop-test .taken) mine (omega (arith, e .pre .1, e .pre .2)) in
-    record { fits = omega (arith, room, e .pre .1) }
-
-slice-write-rows : tie.Need-slice-write-rows Inv-loop μ-loop
-slice-write-rows c =
-    let e = c .before .before .before .before .before in
-    let l = c .before .before .before .before .loop in
-    let f : ℕ → Bool = owns (e .args .owners .now) (e .args .desk) in
-    let mine = eq-eqb _ _ (c .before .if1 .taken) in
-    let room = filled-room f (e .args .sets .now) (e .args .start) (e .args .rows .now) (l .next) (l .n) (l .rows) (l .inv .1) (e .args .used) (c .before .before .before .loop-test .taken) mine (omega (arith, e .pre .1, e .pre .2)) in
-    omega (arith, room, l .inv .1 .long)
+put-row-requires : tie.Need-put-row-requires Inv-loop μ-loop
+put-row-requires c κs = room (c .before .before .before)
 
 add-n : tie.Need-add-n Inv-loop μ-loop
 add-n c =
-    let e = c .before .before .before .before .before in
-    let l = c .before .before .before .before .loop in
-    let f : ℕ → Bool = owns (e .args .owners .now) (e .args .desk) in
-    let mine = eq-eqb _ _ (c .before .if1 .taken) in
-    let room = filled-room f (e .args .sets .now) (e .args .start) (e .args .rows .now) (l .next) (l .n) (l .rows) (l .inv .1) (e .args .used) (c .before .before .before .loop-test .taken) mine (omega (arith, e .pre .1, e .pre .2)) in
-    record { fits = omega (arith, room, e .pre .1) }
+    let chosen = c .before .before .before .before .before .before in
+    let here = chosen .before .before .before in
+    record { fits = omega (arith, room chosen, here .loop .inv .1 .filled .long, here .before .before .pre .1) }
 
 loop-less : tie.Need-loop-less Inv-loop μ-loop
 loop-less c = search needs
 
 loop-again : tie.Need-loop-again Inv-loop μ-loop
 loop-again c =
-    let e = c .before .before .before .before .before in
-    let l = c .before .before .before .before .loop in
-    let f : ℕ → Bool = owns (e .args .owners .now) (e .args .desk) in
-    let mine = eq-eqb _ _ (c .before .if1 .taken) in
-    let room = filled-room f (e .args .sets .now) (e .args .start) (e .args .rows .now) (l .next) (l .n) (l .rows) (l .inv .1) (e .args .used) (c .before .before .before .loop-test .taken) mine (omega (arith, e .pre .1, e .pre .2)) in
-    (omega (arith, c .before .before .before .loop-test .taken), filled-more f (e .args .sets .now) (e .args .start) (e .args .rows .now) (l .next) (l .n) (l .rows) (l .inv .1) mine room)
+    let put = c .before .before in
+    let chosen = put .before .before .before .before in
+    let inside = chosen .before .before in (
+      omega (arith, inside .loop-test .taken),
+      gathered-more (inside .before .loop .inv .1) (mine chosen) (room chosen) _ (put .before .row-at .ensures .0) (put .put-row .ensures),
+    )
 
 loop-less-2 : tie.Need-loop-less-2 Inv-loop μ-loop
 loop-less-2 c = search needs
 
 loop-again-2 : tie.Need-loop-again-2 Inv-loop μ-loop
 loop-again-2 c =
-    let e = c .before .before .before .before in
-    let l = c .before .before .before .loop in (
-      omega (arith, c .before .before .loop-test .taken),
-      filled-pass (owns (e .args .owners .now) (e .args .desk)) (e .args .sets .now) (e .args .start) (e .args .rows .now) (l .next) (l .n) (l .rows)
-          (l .inv .1)
-          (ne-eqb _ _ (c .if1 .left)),
-    )
+    let inside = c .before .before in
+    (omega (arith, inside .loop-test .taken), gathered-pass (inside .before .loop .inv .1) (ne-eqb _ _ (c .if1 .left)))
 
 same-length : tie.Need-same-length Inv-loop μ-loop
 same-length c = c .before .loop .inv .1 .long
 
 returns : tie.Need-returns Inv-loop μ-loop
 returns c =
-    let e = c .before .before in
     let l = c .before .loop in
-    let all : l .next ≡ e .args .used = omega (arith, l .inv .0, c .loop-test .left) in
-    rw all at (l .inv .1)
+    let all : l .next ≡ c .before .before .before .args .used = omega (arith, l .inv .0, c .loop-test .left) in
+    rw all at (l .inv .1 .filled)
 
 pub put-own-spec : {M : Type 1} → statement M
 put-own-spec =
@@ -109,10 +98,8 @@ put-own-spec =
     add-next
     mul-if1
     element-copy-out-if1
-    mul-rows
-    element-copy-out-rows
-    mul-rows-2
-    slice-write-rows
+    row-at-requires
+    put-row-requires
     add-n
     loop-less
     loop-again

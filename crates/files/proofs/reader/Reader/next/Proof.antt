@@ -19,15 +19,15 @@ use denote.Enum.Laws as enum
 use denote.Struct.Laws as struct
 use Rattle.files.specs.Turns.{stepAt}
 use Rattle.files.specs.declared.reader.Reader.{Reader}
-use Rattle.files.specs.declared.Row.{Row}
+use Rattle.files.specs.declared.NextRow.{NextRow}
 use Rattle.files.specs.declared.Step.{Step}
 use Rattle.files.proofs.MadeReader.{file-value, reader-value, made}
 use Rattle.files.proofs.reader.Reader as readers
 use Rattle.files.proofs.reader.Reader.Laws as reader-laws
 use Rattle.files.proofs.Step as steps
 use Rattle.files.proofs.Step.Laws as step-laws
-use Rattle.files.proofs.Row as rows
-use Rattle.files.proofs.Row.Laws as row-laws
+use Rattle.files.proofs.NextRow as rows
+use Rattle.files.proofs.NextRow.Laws as row-laws
 use Rattle.files.proofs.step_at as step-at
 use Rattle.files.proofs.step_at.Symbol as step-at-def
 use Rattle.files.proofs.step_at.Symbol.{name as #step-at}
@@ -49,7 +49,7 @@ abbrev StepAt : {M : Type 1} (𝓤 : URA M) (H : Heap 𝓤) (A : Atoms 𝓤) (me
 StepAt 𝓤 H A mem run = tripleOf 𝓤 H A step-at.signature (step-at.spec 𝓤 H A mem run)
 
 -- a row's machine value
-abbrev row-value : Row → Val
+abbrev row-value : NextRow → Val
 row-value = enum.val rows.the-type row-laws.the-laws
 
 -- the step's parts are related to their machine values, as the step is

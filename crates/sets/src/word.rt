@@ -1,0 +1,105 @@
+// One word as a set: what marks and tags are, and what a row is made of.
+ghost use mathlib.Core.Path.{_≡_};
+ghost use Prim.Native.Nat.{_-_, _^_, _<_, _≤_};
+ghost use lib.Bits.{bitOr};
+ghost use lib.Count.{trailingZeros, leadingZeros};
+ghost use Rattle.sets.specs.Limits.{wordBits};
+ghost use Rattle.sets.specs.Sets.{has, single, subset, minus, below, within};
+
+// How many bits a word has.
+pub const BITS: usize = 64;
+
+// Value v is in the set. Total, so that no caller owes a bound.
+pub fn has(set: u64, v: usize) -> bool
+    ensures { λ r. ⌜ r ≡ has set v ⌝ }
+{
+    if v < BITS { (set >> v) % 2 == 1 } else { false }
+}
+
+// Every value of a is one of b's.
+pub fn subset(a: u64, b: u64) -> bool
+    ensures { λ r. ⌜ r ≡ subset a b ⌝ }
+{
+    a & b == a
+}
+
+// The values of a that are not b's.
+pub fn minus(a: u64, b: u64) -> u64
+    ensures { λ r. ⌜ r ≡ minus a b ⌝ }
+{
+    a ^ (a & b)
+}
+
+// The set of the one value v.
+pub fn single(v: usize) -> u64
+    requires { ⌜ v < wordBits ⌝ }
+    ensures { λ r. ⌜ r ≡ single v ⌝ }
+{
+    1 << v
+}
+
+// The set with the value v put in.
+pub fn with(set: u64, v: usize) -> u64
+    requires { ⌜ v < wordBits ⌝ }
+    ensures { λ r. ⌜ r ≡ bitOr set (single v) ⌝ }
+{
+    set | (1 << v)
+}
+
+// The set with the value v taken out.
+pub fn without(set: u64, v: usize) -> u64
+    requires { ⌜ v < wordBits ⌝ }
+    ensures { λ r. ⌜ r ≡ minus set (single v) ⌝ }
+{
+    minus(set, 1 << v)
+}
+
+// The set of all values below d.
+pub fn all(d: usize) -> u64
+    requires { ⌜ d ≤ wordBits ⌝ }
+    ensures { λ r. ⌜ r ≡ 2 ^ d - 1 ⌝ }
+{
+    if d < BITS {
+        (1 << d) - 1
+    } else {
+        0xffff_ffff_ffff_ffff
+    }
+}
+
+// The lowest value of the set, and `BITS` where it has none.
+pub fn lowest(set: u64) -> usize
+    ensures { λ r. ⌜ r ≡ trailingZeros wordBits set ⌝ }
+{
+    u64::trailing_zeros(set) as usize
+}
+
+// The set without its lowest value.
+pub fn rest(set: u64) -> u64
+    ensures { λ r. ⌜ r ≡ minus set (single (trailingZeros wordBits set)) ⌝ }
+{
+    if set == 0 {
+        return 0;
+    }
+    set & (set - 1)
+}
+
+// One more than the highest value of the set, and 0 where it has none.
+pub fn top(set: u64) -> usize
+    ensures { λ r. ⌜ r ≡ wordBits - leadingZeros wordBits set ⌝ }
+{
+    BITS - u64::leading_zeros(set) as usize
+}
+
+// No value d or above.
+pub fn below(set: u64, d: usize) -> bool
+    ensures { λ r. ⌜ r ≡ below d set ⌝ }
+{
+    if d < BITS { set >> d == 0 } else { true }
+}
+
+// Not empty, and no value d or above.
+pub fn within(set: u64, d: usize) -> bool
+    ensures { λ r. ⌜ r ≡ within d set ⌝ }
+{
+    if set == 0 { false } else { below(set, d) }
+}
