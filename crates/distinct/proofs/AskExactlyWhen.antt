@@ -16,7 +16,7 @@ use Rattle.refusals.proofs.GivenExactlyWhen.{given-exactly-when}
 use Rattle.refusals.proofs.RowsReturned.{table-rising, lowest-bad-row, no-row}
 use Rattle.distinct.specs.declared.Answer.{Answer}
 use Rattle.distinct.specs.declared.Answer.the-variants.{Kept, Refused}
-use Rattle.distinct.specs.Asked.{numberOf, rowOf, placeCases, askCases, answered}
+use Rattle.distinct.specs.Asked.{numberOf, rowOf, placeCases, askCases, askAnswer}
 
 module _ (d : ℕ) (view : List ℕ) (places : ℕ) where
   abbrev accepts : Answer
@@ -26,13 +26,13 @@ module _ (d : ℕ) (view : List ℕ) (places : ℕ) where
   unfolding askCases
   ask-rising = table-rising mostInView d view (placeCases view places) (omega arith, tt)
 
-  pub ask-exactly-when : (n : ℕ) → 0 < n → (numberOf (answered d view places) ≡ n) ↔ Given (askCases d view places) n
-  unfolding answered
+  pub ask-exactly-when : (n : ℕ) → 0 < n → (numberOf (askAnswer d view places) ≡ n) ↔ Given (askCases d view places) n
+  unfolding askAnswer
   ask-exactly-when = given-exactly-when Refused numberOf (λ r. refl) accepts refl 0 (askCases d view places) ask-rising
 
   -- with 2 'the lowest such row'
-  pub ask-bad-row : numberOf (answered d view places) ≡ 2 → LowestBad d view (rowOf (answered d view places))
-  unfolding answered askCases
+  pub ask-bad-row : numberOf (askAnswer d view places) ≡ 2 → LowestBad d view (rowOf (askAnswer d view places))
+  unfolding askAnswer askCases
   ask-bad-row e =
       let given = lowest-bad-row Refused numberOf (λ r. refl) accepts mostInView d view (placeCases view places) (omega arith, tt) refl e in
       rw (ap rowOf (given .1)) (given .2)
@@ -42,7 +42,7 @@ module _ (d : ℕ) (view : List ℕ) (places : ℕ) where
   unfolding applies askCases tableCases
   never-26 = refl
 
-  pub ask-no-row : numberOf (answered d view places) ≢ 2 → rowOf (answered d view places) ≡ 0
-  unfolding answered
+  pub ask-no-row : numberOf (askAnswer d view places) ≢ 2 → rowOf (askAnswer d view places) ≡ 0
+  unfolding askAnswer
   ask-no-row not-2 = no-row Refused numberOf (λ r. refl) accepts rowOf (λ r. refl) refl (askCases d view places) not-2
       (λ e. not-both (ask-exactly-when 26 (omega arith) .0 e .0) never-26)

@@ -1,4 +1,4 @@
--- What any caller is answered, case by case, and what is known of a view that may be asked about. Assumes nothing.
+-- What any caller is askAnswer, case by case, and what is known of a view that may be asked about. Assumes nothing.
 use Prim.Native.Nat.{ℕ, zero, suc, _<_, _≤_}
 use mathlib.Core.Path.{_≡_, refl, ap, _∙_}
 use mathlib.Core.Bool.{Bool, false, cond}
@@ -18,25 +18,25 @@ use Rattle.refusals.proofs.Outcomes.{NoneApplies, Gives, stands-first, refuses-
 use Rattle.refusals.proofs.TablesJudged.{right-parts}
 use Rattle.distinct.specs.declared.Answer.{Answer}
 use Rattle.distinct.specs.declared.Answer.the-variants.{Kept, Refused}
-use Rattle.distinct.specs.Asked.{Askable, placeCases, askCases, answered}
+use Rattle.distinct.specs.Asked.{Askable, placeCases, askCases, askAnswer}
 
 module _ (d : ℕ) (view : List ℕ) where
   abbrev accepts : Answer
   accepts = Kept (length (kept d view))
 
-  pub view-refused : (places : ℕ) (r : Refusal) → Gives (tableCases mostInView d view) r → answered d view places ≡ Refused r
-  unfolding answered askCases
+  pub view-refused : (places : ℕ) (r : Refusal) → Gives (tableCases mostInView d view) r → askAnswer d view places ≡ Refused r
+  unfolding askAnswer askCases
   view-refused places r given = refuses-first Refused (tableCases mostInView d view) (placeCases view places) r given accepts
 
   module _ (right : NoneApplies (tableCases mostInView d view)) where
-    then-places : (places : ℕ) → answered d view places ≡ cond (ltb places (length view)) (Refused ShortList) accepts
-    unfolding answered askCases decided
+    then-places : (places : ℕ) → askAnswer d view places ≡ cond (ltb places (length view)) (Refused ShortList) accepts
+    unfolding askAnswer askCases decided
     then-places places = stands-first Refused (tableCases mostInView d view) (placeCases view places) right accepts
 
-    pub list-refused : (places : ℕ) → places < length view → answered d view places ≡ Refused ShortList
+    pub list-refused : (places : ℕ) → places < length view → askAnswer d view places ≡ Refused ShortList
     list-refused places h = then-places places ∙ ap (λ (b : Bool). cond b (Refused ShortList) accepts) (lt-ltb places (length view) h)
 
-    pub answers : (places : ℕ) → length view ≤ places → answered d view places ≡ Kept (length (kept d view))
+    pub answers : (places : ℕ) → length view ≤ places → askAnswer d view places ≡ Kept (length (kept d view))
     answers places h = then-places places ∙ ap (λ (b : Bool). cond b (Refused ShortList) accepts) (le-ltb places (length view) h)
 
     pub may-ask : (list : List ℕ) → length view ≤ length list → Askable d view list

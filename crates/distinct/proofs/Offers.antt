@@ -13,7 +13,7 @@ use Rattle.sets.proofs.Bools.{true-or-false, is-false}
 use Rattle.theory.specs.Pairings.{at}
 use Rattle.theory.specs.Kept.{marked, tries}
 use Rattle.theory.proofs.NextRow.{tries-none, try-marked}
-use Rattle.pairing.specs.declared.seats.Seats.{Seats}
+use Rattle.pairing.specs.declared.seats.Seating.{Seating}
 use Rattle.pairing.specs.Seats.{OfSeat}
 use Rattle.distinct.specs.Steps.{before, Pairs, offered, marksThen}
 use Rattle.distinct.proofs.MarksBefore.{length-before, before-none, before-all, before-marked, before-unmarked}
@@ -36,7 +36,7 @@ marks-other false false t e = true≢false t
 -- ---- a turn of offers
 
 -- the rows before n with the mark b have been offered seats, and the marks ms₀ have become ms
-pub record Offering (b : Bool) (view : List ℕ) (ms₀ ms : List Bool) (n : ℕ) (s : Seats) (rows columns mates : List ℕ) : Type 0 where
+pub record Offering (b : Bool) (view : List ℕ) (ms₀ ms : List Bool) (n : ℕ) (s : Seating) (rows columns mates : List ℕ) : Type 0 where
   pub bound : n ≤ length view
   pub pairs : Pairs view (offered b n ms) s rows columns mates
   pub marks : ms ≡ marksThen b view n ms₀

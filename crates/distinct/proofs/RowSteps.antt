@@ -13,7 +13,7 @@ use Rattle.theory.specs.Pairings.{size, at, Pairing}
 use Rattle.theory.specs.Kept.{marked, try, tries, rowsAt}
 use Rattle.theory.proofs.NextRow.{tries-next}
 use Rattle.theory.proofs.PlacedRows.{raised-stands, raised-kept, passed-by, passed-stands}
-use Rattle.pairing.specs.declared.seats.Seats.{Seats}
+use Rattle.pairing.specs.declared.seats.Seating.{Seating}
 use Rattle.pairing.specs.Seats.{Below, Bench, Passed, Raised, OfSeat}
 use Rattle.pairing.proofs.Benches.{passed-largest}
 use Rattle.pairing.proofs.Snoc.{size-open}

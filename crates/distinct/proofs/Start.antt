@@ -22,7 +22,7 @@ use Rattle.theory.proofs.Places.{past, mem-place}
 use Rattle.theory.proofs.PairingSteps.{pairing-nil}
 use Rattle.theory.proofs.Sizes.{size-by-rows}
 use Rattle.theory.proofs.Enumerations.{rank-met}
-use Rattle.pairing.specs.declared.seats.Seats.{Seats}
+use Rattle.pairing.specs.declared.seats.Seating.{Seating}
 use Rattle.pairing.specs.Seats.{Below, Bench}
 use Rattle.minimal.specs.Marking.{NoneEmpty}
 use Rattle.distinct.specs.Steps.{InColumn, before, Pairs, offered}
@@ -54,7 +54,7 @@ module _ (d : ℕ) (view : List ℕ) (C : InColumn d view) where
 
   module _ (all none : Row) (is-all : bits all ≡ 2 ^ d - 1) (is-none : bits none ≡ zero) where
     -- the seats before any row is asked
-    abbrev start : Seats
+    abbrev start : Seating
     start = record { d = d; used = zero; entered = zero; free = all; dead = none; fresh = all; heavy = none }
 
     none-has : (v : ℕ) → has (bits none) v ≡ false

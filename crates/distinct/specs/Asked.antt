@@ -1,4 +1,4 @@
--- What DISTINCT asks of its callers, and what is answered to any caller, about a view that belongs to no desk.
+-- What DISTINCT asks of its callers, and what is askAnswer to any caller, about a view that belongs to no desk.
 use Prim.Native.Nat.{ℕ, zero, _≤_}
 use mathlib.Core.List.{List, [], _∷_, _++_}
 use lib.Dec.{ltb}
@@ -29,7 +29,7 @@ abbrev pub rowOf : Answer → ℕ
 rowOf (Kept n) = zero
 rowOf (Refused r) = row r
 
--- ---- what is answered
+-- ---- what is askAnswer
 
 -- 11: 'the lent list has fewer places than the view has rows'
 abbrev pub placeCases : List ℕ → ℕ → List Case
@@ -40,8 +40,8 @@ unfoldable pub askCases : ℕ → List ℕ → ℕ → List Case
 askCases d view places = tableCases mostInView d view ++ placeCases view places
 
 -- where there are so many places
-unfoldable pub answered : ℕ → List ℕ → ℕ → Answer
-answered d view places = decided Refused (askCases d view places) (Kept (length (kept d view)))
+unfoldable pub askAnswer : ℕ → List ℕ → ℕ → Answer
+askAnswer d view places = decided Refused (askCases d view places) (Kept (length (kept d view)))
 
 -- 'the first n places of the lent list get the kept positions, later places keep what they had'; a refusal 'writes to no lent memory'
 abbrev pub listed : ℕ → List ℕ → List ℕ → Answer → List ℕ

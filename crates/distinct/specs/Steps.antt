@@ -10,7 +10,7 @@ use Rattle.sets.specs.Sets.{within}
 use Rattle.theory.specs.Kept.{rowsAt, tries}
 use Rattle.theory.specs.Pairings.{at}
 use Rattle.theory.specs.Search.{Stands}
-use Rattle.pairing.specs.declared.seats.Seats.{Seats}
+use Rattle.pairing.specs.declared.seats.Seating.{Seating}
 use Rattle.pairing.specs.Seats.{Below, Sitting, seats}
 
 -- the rows are those of a column with d values
@@ -30,7 +30,7 @@ before zero (m ∷ ms) = false ∷ before zero ms
 before (suc n) (m ∷ ms) = m ∷ before n ms
 
 -- the rows on the seats are marked rows of the view, as many as the rank of the marked rows
-pub record Pairs (view : List ℕ) (ms : List Bool) (s : Seats) (rows columns mates : List ℕ) : Type 0 where
+pub record Pairs (view : List ℕ) (ms : List Bool) (s : Seating) (rows columns mates : List ℕ) : Type 0 where
   pub sits : Sitting s rows columns mates
   pub places : List ℕ
   pub stands : Stands width view ms places

@@ -5,7 +5,7 @@ ghost use lib.ListN.{length, drop};
 ghost use Rattle.sets.specs.Rows.{rowsOf};
 ghost use Rattle.theory.specs.Kept.{kept};
 ghost use Rattle.minimal.specs.Marking.{NoMarks};
-ghost use Rattle.distinct.specs.Asked.{Askable, answered, listed};
+ghost use Rattle.distinct.specs.Asked.{Askable, askAnswer, listed};
 ghost use Rattle.distinct.specs.Steps.{Places};
 use refusals::Refusal;
 use refusals::tables;
@@ -62,7 +62,7 @@ pub enum Answer {
 
 // DISTINCT for any caller: a view that cannot be asked about is refused, with nothing written.
 pub fn ask(d: usize, view: &[u64], list: &mut [usize]) -> Answer
-    ensures { λ r. ⌜ (r ≡ answered d (rowsOf (now (view .entry))) (length (now (list .entry))))
+    ensures { λ r. ⌜ (r ≡ askAnswer d (rowsOf (now (view .entry))) (length (now (list .entry))))
         × (now (list .exit) ≡ listed d (rowsOf (now (view .entry))) (now (list .entry)) r) ⌝ }
 {
     let judged = tables::judge(view, d, Sheet::VIEW);

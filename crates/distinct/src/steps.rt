@@ -8,7 +8,7 @@ ghost use Rattle.theory.specs.Kept.{marks, tries};
 ghost use Rattle.minimal.specs.Marking.{NoMarks};
 ghost use Rattle.pairing.specs.Seats.{seats};
 ghost use Rattle.distinct.specs.Steps.{InColumn, Places, Pairs, offered, marksThen};
-use pairing::seats::Seats;
+use pairing::seats::Seating;
 
 // A row that has a mate sits on a seat, and there are no more mates than values.
 pub const SEATS: usize = sets::VALUES;
@@ -18,11 +18,11 @@ fn offer_seats(
     marked: bool,
     view: &[u64],
     keep: &mut [bool],
-    mut seats: Seats,
+    mut seats: Seating,
     rows: &mut [u64],
     columns: &mut [u64],
     mates: &mut [usize],
-) -> Seats
+) -> Seating
     requires { ⌜ Pairs (rowsOf (now view)) (offered marked 0 (now keep)) seats (rowsOf (now rows)) (rowsOf (now columns)) (now mates) ⌝ }
     ensures { λ r. ⌜ (now (keep .exit) ≡ marksThen marked (rowsOf (now (view .entry))) (length (rowsOf (now (view .entry)))) (now (keep .entry)))
         × Pairs (rowsOf (now (view .entry))) (now (keep .exit)) r (rowsOf (now (rows .exit))) (rowsOf (now (columns .exit)))
@@ -60,7 +60,7 @@ fn second_step(
 {
     let all = sets::all(d);
     let none = sets::empty();
-    let mut seats = Seats {
+    let mut seats = Seating {
         d,
         used: 0,
         entered: 0,

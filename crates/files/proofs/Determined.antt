@@ -10,7 +10,7 @@ use Rattle.walks.proofs.Public.{Public, Contract}
 use Rattle.files.specs.declared.Lesson.{Lesson}
 use Rattle.files.specs.declared.Step.{Step}
 use Rattle.files.specs.Reading.{filled}
-use Rattle.files.specs.Turns.{stepAt, moved}
+use Rattle.files.specs.RowByRow.{stepAt, moved}
 use Rattle.files.proofs.read.Kinds as read-kinds
 use Rattle.files.proofs.read.Reads as read
 use Rattle.files.proofs.step_at.Kinds as step-kinds

@@ -16,7 +16,7 @@ use Rattle.files.specs.declared.Lesson.{Lesson}
 use Rattle.files.specs.declared.Lesson.the-variants.{Read, Refused}
 use Rattle.files.specs.Files.{valuesIn, countIn, rowIn}
 use Rattle.files.specs.FileCases.{frontCases, rowOver, rowCases, placeCases, readCases}
-use Rattle.files.specs.Reading.{numberOf, rowOf, valuesOf, countOf, answered}
+use Rattle.files.specs.Reading.{numberOf, rowOf, valuesOf, countOf, readAnswer}
 use Rattle.files.proofs.RowLaws.{lowest-says}
 
 -- a refusal's d and T
@@ -26,7 +26,7 @@ none-returned (Refused r) ne = (refl, refl)
 
 module _ (file : List ℕ) (places : ℕ) where
   abbrev answer : Lesson
-  answer = answered file places
+  answer = readAnswer file places
 
   abbrev accepts : Lesson
   accepts = Read (valuesIn file) (countIn file)
@@ -37,13 +37,13 @@ module _ (file : List ℕ) (places : ℕ) where
   read-rising =
       (omega arith, (omega arith, (omega arith, (omega arith, (omega arith, (omega arith, (omega arith, (omega arith, (omega arith, tt)))))))))
 
-  pub read-exactly-when : (n : ℕ) → 0 < n → (numberOf (answered file places) ≡ n) ↔ Given (readCases file places) n
-  unfolding answered
+  pub read-exactly-when : (n : ℕ) → 0 < n → (numberOf (readAnswer file places) ≡ n) ↔ Given (readCases file places) n
+  unfolding readAnswer
   read-exactly-when = given-exactly-when Refused numberOf (λ r. refl) accepts refl 19 (readCases file places) read-rising
 
   -- 'Accepted: d and T are returned'
   pub accepted-returns : numberOf answer ≡ 0 → (valuesOf answer ≡ valuesIn file) × (countOf answer ≡ countIn file) × (rowOf answer ≡ 0)
-  unfolding answered
+  unfolding readAnswer
   accepted-returns e =
       let read = none-given Refused numberOf (λ r. refl) accepts refl 19 (readCases file places) read-rising e .1 in
       (ap valuesOf read, ap countOf read, ap rowOf read)
@@ -57,7 +57,7 @@ module _ (file : List ℕ) (places : ℕ) where
       → (rowOf answer < countIn file)
       × (below (valuesIn file) (rowIn file (rowOf answer)) ≡ false)
       × ((j : ℕ) → j < rowOf answer → below (valuesIn file) (rowIn file j) ≡ true)
-  unfolding answered rowCases
+  unfolding readAnswer rowCases
   row-over-returns e =
       let member = Memᴰ·append-left (placeCases file places) (Memᴰ·append-right (frontCases file) (List·Memᴰ·head refl)) in
       let own = own-refusal Refused numberOf (λ r. refl) accepts refl 19 (readCases file places) read-rising (rowOver file names RowOver) member e in
@@ -71,6 +71,6 @@ module _ (file : List ℕ) (places : ℕ) where
 
   -- 'a row number (0 except for 26)'
   pub no-row-returns : numberOf answer ≢ 26 → rowOf answer ≡ 0
-  unfolding answered
+  unfolding readAnswer
   no-row-returns = no-row Refused numberOf (λ r. refl) accepts rowOf (λ r. refl) refl (readCases file places)
       (λ e. not-both (read-exactly-when 2 (omega arith) .0 e .0) (low-never 19 (readCases file places) read-rising 2 (omega arith)))

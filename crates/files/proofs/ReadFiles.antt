@@ -17,7 +17,7 @@ use Rattle.files.specs.declared.Lesson.{Lesson}
 use Rattle.files.specs.declared.Lesson.the-variants.{Read, Refused}
 use Rattle.files.specs.Files.{valuesIn, countIn}
 use Rattle.files.specs.FileCases.{frontCases, fileCases, placeCases}
-use Rattle.files.specs.Reading.{countOf, judged, answered}
+use Rattle.files.specs.Reading.{countOf, judged, readAnswer}
 
 -- no refusal is an answer that the file is read
 apart : (d t : ℕ) (r : Refusal) → Refused r ≢ Read d t
@@ -52,15 +52,15 @@ module _ (file : List ℕ) where
 
   module _ (places : ℕ) where
     -- the list is looked at where the file is read
-    pub then-places : (d t : ℕ) → judged file ≡ Read d t → answered file places ≡ cond (ltb places t) (Refused FewPlaces) (Read d t)
-    unfolding answered decided
+    pub then-places : (d t : ℕ) → judged file ≡ Read d t → readAnswer file places ≡ cond (ltb places t) (Refused FewPlaces) (Read d t)
+    unfolding readAnswer decided
     then-places d t e =
         let none = read-none d t e in
         stands-first Refused (fileCases file) (placeCases file places) (none .0) accepts
         ∙ (λ i. cond (ltb places (countOf (none .1 i))) (Refused FewPlaces) (none .1 i))
 
-    pub still-refused : (r : Refusal) → judged file ≡ Refused r → answered file places ≡ Refused r
-    unfolding judged answered
+    pub still-refused : (r : Refusal) → judged file ≡ Refused r → readAnswer file places ≡ Refused r
+    unfolding judged readAnswer
     still-refused r e =
         let given = refusing Refused accepts (apart (valuesIn file) (countIn file)) same (fileCases file) r e in
         refuses-first Refused (fileCases file) (placeCases file places) r given accepts

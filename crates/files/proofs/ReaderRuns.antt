@@ -10,7 +10,7 @@ use denote.Triple.Entry.{Args}
 use denote.Triple.Clauses.{AtExit}
 use Rattle.files.specs.declared.NextRow.{NextRow}
 use Rattle.files.specs.declared.reader.Reader.{Reader}
-use Rattle.files.specs.Turns.{stepAt, cursor, handedOut, moved}
+use Rattle.files.specs.RowByRow.{stepAt, cursor, handedOut, moved}
 use Rattle.files.proofs.Determined.{Makes, Hands}
 use Rattle.files.proofs.reader.Reader.new as new
 use Rattle.files.proofs.reader.Reader.next as next

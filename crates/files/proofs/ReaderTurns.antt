@@ -20,7 +20,7 @@ use Rattle.files.specs.declared.Step.{Step}
 use Rattle.files.specs.Rows.{listTo}
 use Rattle.files.specs.Files.{countIn, cellIn}
 use Rattle.files.specs.Reading.{judged, filled}
-use Rattle.files.specs.Turns.{stepAt, cursor, handedOut}
+use Rattle.files.specs.RowByRow.{stepAt, cursor, handedOut}
 use Rattle.files.proofs.ReadFiles.{readable}
 
 -- ---- a list of the first n, at a place

@@ -12,7 +12,7 @@ use Rattle.files.specs.Bytes.{big}
 use Rattle.files.specs.Rows.{listTo, unionTo, lowestTo}
 use Rattle.files.specs.Files.{cellIn, cellsIn}
 use Rattle.files.specs.FileCases.{frontCases, rowCases}
-use Rattle.files.specs.Reading.{numberOf, answered}
+use Rattle.files.specs.Reading.{numberOf, readAnswer}
 
 -- a row of one byte's value, in 8 bytes
 row : ℕ → List ℕ
@@ -22,14 +22,14 @@ pub requestFile : List ℕ
 requestFile = 0x50 ∷ 0x56 ∷ 0x54 ∷ 0x00 ∷ 0x01 ∷ 0x04 ∷ 0x00 ∷ 0x03 ∷ [] ++ row 3 ++ row 0 ++ row 4
 
 -- d is 4 and T is 3, into a list of 3 places
-pub request-file-read : answered requestFile 3 ≡ Read 4 3
-unfolding requestFile row answered decided frontCases rowCases big below lowestTo allTo
+pub request-file-read : readAnswer requestFile 3 ≡ Read 4 3
+unfolding requestFile row readAnswer decided frontCases rowCases big below lowestTo allTo
 request-file-read = refl
 
 pub request-file-rows : cellsIn requestFile ≡ 3 ∷ 7 ∷ 4 ∷ []
 unfolding requestFile row cellIn big listTo unionTo
 request-file-rows = refl
 
-pub one-byte-less : (places : ℕ) → numberOf (answered (take 31 requestFile) places) ≡ 25
-unfolding requestFile row answered decided frontCases rowCases big
+pub one-byte-less : (places : ℕ) → numberOf (readAnswer (take 31 requestFile) places) ≡ 25
+unfolding requestFile row readAnswer decided frontCases rowCases big
 one-byte-less places = refl

@@ -1,8 +1,8 @@
 -- `Bytes`: numbers in bytes. `Rows`: the first n rows. `Files`: what a lesson file says. `FileCases`: when it is refused.
--- `Reading`: what is answered, and what `read` leaves. `Turns`: the reader, row by row.
+-- `Reading`: what is readAnswer, and what `read` leaves. `RowByRow`: the reader, row by row.
 pub mod Bytes
 pub mod Rows
 pub mod Files
 pub mod FileCases
 pub mod Reading
-pub mod Turns
+pub mod RowByRow

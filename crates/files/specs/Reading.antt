@@ -36,8 +36,8 @@ unfoldable pub judged : List ℕ → Lesson
 judged file = decided Refused (fileCases file) (Read (valuesIn file) (countIn file))
 
 -- with a list of so many places lent
-unfoldable pub answered : List ℕ → ℕ → Lesson
-answered file places = decided Refused (readCases file places) (Read (valuesIn file) (countIn file))
+unfoldable pub readAnswer : List ℕ → ℕ → Lesson
+readAnswer file places = decided Refused (readCases file places) (Read (valuesIn file) (countIn file))
 
 -- 'the first T places hold the rows and the rest keep what they had'; a refusal 'writes nothing'
 abbrev pub filled : List ℕ → List ℕ → Lesson → List ℕ

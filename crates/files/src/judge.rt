@@ -40,20 +40,20 @@ pub fn judge(file: &[u8]) -> Lesson
     if file.len() < 8 {
         return Lesson::Refused(Refusal::ShortFile);
     }
-    if numbers::number(file, 0, 3) != 0x505654 {
+    if numbers::big(file, 0, 3) != 0x505654 {
         return Lesson::Refused(Refusal::WrongMark);
     }
-    if numbers::number(file, 3, 2) != 1 {
+    if numbers::big(file, 3, 2) != 1 {
         return Lesson::Refused(Refusal::WrongVersion);
     }
-    let d = numbers::number(file, 5, 1) as usize;
+    let d = numbers::big(file, 5, 1) as usize;
     if d == 0 {
         return Lesson::Refused(Refusal::BadValues);
     }
     if Sheet::VALUES < d {
         return Lesson::Refused(Refusal::BadValues);
     }
-    let t = numbers::number(file, 6, 2) as usize;
+    let t = numbers::big(file, 6, 2) as usize;
     if Sheet::ROWS < t {
         return Lesson::Refused(Refusal::ManyRows);
     }

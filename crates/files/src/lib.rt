@@ -7,8 +7,8 @@ ghost use lib.Dec.{eqb};
 ghost use lib.ListN.{length, drop};
 ghost use Rattle.sets.specs.Rows.{rowWords, bits, Holds, rowsOf, inWords};
 ghost use Rattle.files.specs.Files.{countIn, cellIn, cellsIn};
-ghost use Rattle.files.specs.Reading.{answered, filled};
-ghost use Rattle.files.specs.Turns.{stepAt};
+ghost use Rattle.files.specs.Reading.{readAnswer, filled};
+ghost use Rattle.files.specs.RowByRow.{stepAt};
 use refusals::Refusal;
 use sets::Row;
 
@@ -68,7 +68,7 @@ fn fill(file: &[u8], t: usize, rows: &mut [u64])
 
 // A lesson file into a lent list: d and T, or the lowest refusal, with nothing written.
 pub fn read(file: &[u8], rows: &mut [u64]) -> Lesson
-    ensures { λ r. ⌜ (r ≡ answered (now (file .entry)) (length (rowsOf (now (rows .entry)))))
+    ensures { λ r. ⌜ (r ≡ readAnswer (now (file .entry)) (length (rowsOf (now (rows .entry)))))
         × (now (rows .exit) ≡ filled (now (file .entry)) (now (rows .entry)) r) ⌝ }
 {
     let lesson = judge::judge(file);

@@ -12,7 +12,7 @@ use sets::Found;
 use sets::Row;
 
 // The number in n bytes from a place on, the first byte highest.
-pub fn number(file: &[u8], from: usize, n: usize) -> u64
+pub fn big(file: &[u8], from: usize, n: usize) -> u64
     requires { ⌜ (n ≤ 8) × (from + n ≤ length (now file)) ⌝ }
     ensures { λ r. ⌜ r ≡ big (now (file .entry)) from n ⌝ }
 {
@@ -30,7 +30,7 @@ pub fn row(file: &[u8], i: usize) -> Row
     requires { ⌜ 16 + 8 * i ≤ length (now file) ⌝ }
     ensures { λ r. ⌜ Holds r (rowIn (now (file .entry)) i) ⌝ }
 {
-    sets::of_word(number(file, 8 + 8 * i, 8))
+    sets::of_word(big(file, 8 + 8 * i, 8))
 }
 
 // The values of the first n rows together.

@@ -1,6 +1,6 @@
 // The reader: a lesson file and a cursor, which hands out the rows in turn.
 ghost use mathlib.Core.Path.{_≡_};
-ghost use Rattle.files.specs.Turns.{stepAt, moved};
+ghost use Rattle.files.specs.RowByRow.{stepAt, moved};
 use crate::NextRow;
 use crate::Step;
 use crate::step_at;

@@ -9,7 +9,7 @@ use denote.Triple.Entry.{Args, Res}
 use denote.Triple.Clauses.{AtExit}
 use Rattle.sets.specs.Rows.{rowsOf}
 use Rattle.walks.proofs.Public.{Public, Contract}
-use Rattle.host.specs.declared.spoken.Told.{Told}
+use Rattle.host.specs.declared.spoken.Plain.{Plain}
 use Rattle.host.specs.declared.spoken.Handed.{Handed}
 use Rattle.host.specs.Spoken.{askedBy, handedBy, listOf}
 use Rattle.host.proofs.foliokettle_begin.Kinds as begin-kinds
@@ -30,7 +30,7 @@ host-call-determined =
     record { asks-nothing = λ κs a. tt; determined = λ κs a r r′ e e′ p q i. ((p .0 ∙ sym (q .0)) i, (p .1 ∙ sym (q .1)) i) }
 
 pub host-distinct-determined : Public 2 distinct-kinds.ps distinct-kinds.r distinct.Asked distinct.Post
-    (Told × List ℕ) (λ κs r e. (r, now (e .1 .1 .0)))
+    (Plain × List ℕ) (λ κs r e. (r, now (e .1 .1 .0)))
 host-distinct-determined =
     record { asks-nothing = λ κs a. tt; determined = λ κs a r r′ e e′ p q i. ((p .0 ∙ sym (q .0)) i, (p .1 ∙ sym (q .1)) i) }
 

@@ -13,10 +13,10 @@ use Rattle.store.specs.declared.Change.the-variants.{Delete, Insert, Reset}
 use Rattle.store.specs.declared.Question.the-variants.{Look, Count, Distinct}
 use Rattle.store.specs.declared.Answer.the-variants.{Done, Seen, Counted, Listed, Refused}
 use Rattle.distinct.specs.declared.Answer.the-variants as view
-use Rattle.host.specs.declared.spoken.Told.{Told}
+use Rattle.host.specs.declared.spoken.Plain.{Plain}
 use Rattle.host.specs.declared.spoken.Asked.the-variants.{One, Nothing}
-use Rattle.host.specs.Numbers.{toldKept}
-use Rattle.host.specs.Spoken.{askedBy, toldOf}
+use Rattle.host.specs.Numbers.{plainKept}
+use Rattle.host.specs.Spoken.{askedBy, plainOf}
 
 pub kinds-printed : (n : ℕ) → map (λ (kind : ℕ). askedBy kind n) (0 ∷ 1 ∷ 2 ∷ 3 ∷ 4 ∷ 5 ∷ 6 ∷ [])
     ≡ One (Do (Delete (Table n))) ∷ One (Do (Delete (Own n))) ∷ One (Do (Insert (asRow n))) ∷ One (Do Reset) ∷ One (Ask (Look n)) ∷ One (Ask Count) ∷ One
@@ -39,14 +39,14 @@ other-kinds kind n h =
     ) refl
 
 -- a number, and then the values of the answer
-abbrev tells : ℕ → ℕ → ℕ → Told
+abbrev tells : ℕ → ℕ → ℕ → Plain
 tells refusal first second = record { refusal = refusal; first = first; second = second }
 
 pub told-printed : (row : Row) (rows own n i : ℕ)
-    → map toldOf (Done ∷ Seen row ∷ Counted rows own ∷ Listed n ∷ Refused (BadRow i) ∷ Refused NoRoom ∷ [])
+    → map plainOf (Done ∷ Seen row ∷ Counted rows own ∷ Listed n ∷ Refused (BadRow i) ∷ Refused NoRoom ∷ [])
     ≡ tells 0 0 0 ∷ tells 0 (bits row) 0 ∷ tells 0 rows own ∷ tells 0 n 0 ∷ tells 2 i 0 ∷ tells 10 0 0 ∷ []
 told-printed row rows own n i = refl
 
 -- of a view that belongs to no desk
-pub kept-printed : (n i : ℕ) → map toldKept (view.Kept n ∷ view.Refused (BadRow i) ∷ []) ≡ tells 0 n 0 ∷ tells 2 i 0 ∷ []
+pub kept-printed : (n i : ℕ) → map plainKept (view.Kept n ∷ view.Refused (BadRow i) ∷ []) ≡ tells 0 n 0 ∷ tells 2 i 0 ∷ []
 kept-printed n i = refl

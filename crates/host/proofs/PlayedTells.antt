@@ -14,11 +14,11 @@ use Rattle.sets.specs.Rows.{rowsOf}
 use Rattle.store.specs.Calls.{begunSheet, sheetAfter, told}
 use Rattle.store.specs.Promise.{Turn, Store, sheetOn, classStore}
 use Rattle.store.proofs.Runs.{Run, after, saying, run-says}
-use Rattle.host.specs.declared.spoken.Told.{Told}
+use Rattle.host.specs.declared.spoken.Plain.{Plain}
 use Rattle.host.specs.declared.spoken.Handed.{Handed}
 use Rattle.host.specs.declared.spoken.Asked.{Asked}
 use Rattle.host.specs.declared.spoken.Asked.the-variants.{One, Nothing}
-use Rattle.host.specs.Spoken.{askedBy, toldOf, noCall, handedBy, listOf}
+use Rattle.host.specs.Spoken.{askedBy, plainOf, noCall, handedBy, listOf}
 use Rattle.host.proofs.Determined.{Alters}
 use Rattle.host.proofs.foliokettle_begin.Kinds as begin-kinds
 use Rattle.host.proofs.foliokettle_begin.Reads as begin
@@ -34,7 +34,7 @@ pub record Ask : Type 0 where
   pub list : List ℕ
 
 pub record Heard : Type 0 where
-  pub told : Told
+  pub told : Plain
   pub list : List ℕ
 
 -- ---- what a store's turns are to a host
@@ -51,7 +51,7 @@ turnsOf (a ∷ past) = turnBy (askedBy (a .kind) (a .n)) a (turnsOf past)
 -- an answer's numbers and the list; what is no call is told so, and its list stays
 abbrev heardBy : Store → List Turn → Asked → Ask → Heard
 heardBy tell ts (One c) a =
-    let t : Turn = record { desk = a .desk; call = c; list = a .list } in record { told = toldOf (tell ts t .answer); list = tell ts t .list }
+    let t : Turn = record { desk = a .desk; call = c; list = a .list } in record { told = plainOf (tell ts t .answer); list = tell ts t .list }
 heardBy tell ts Nothing a = record { told = noCall; list = a .list }
 
 unfoldable pub hearings : Store → List Ask → List Heard
@@ -85,7 +85,7 @@ module _ (d : ℕ) (table : List ℕ) (desks : ℕ) where
   pub record Altered (s : Sheet) (a : Ask) (o : Heard) (s′ : Sheet) : Type 0 where
     pub κs : Lfts 3
     pub args : Args alter.signature κs
-    pub told : Told
+    pub told : Plain
     pub exit : AtExit alter.ended κs
     pub admitted : Alters κs args told exit
     pub lends : (rowsOf (now (args .1 .0)) ≡ table) × (args .1 .1 .0 ≡ d) × (now (args .0) ≡ s)
@@ -156,7 +156,7 @@ module _ (d : ℕ) (table : List ℕ) (desks : ℕ) where
           → record { told = handedBy asked d table s (a .desk) (length (a .list)) .told; list = listOf asked d table s (a .desk) (a .list) }
           ≡ heardBy (classStore d table desks) (turnsOf past) asked a
       go (One c) e =
-          λ i. let o = told d table (e i) (a .desk) c (a .list) in record { told = toldOf (o .answer); list = o .list }
+          λ i. let o = told d table (e i) (a .desk) c (a .list) in record { told = plainOf (o .answer); list = o .list }
       go Nothing e = refl
 
   pub door-hears : {door : Sheet → Ask → Heard → Sheet → Type 0}

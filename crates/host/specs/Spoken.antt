@@ -14,7 +14,7 @@ use Rattle.store.specs.declared.Answer.{Answer}
 use Rattle.store.specs.declared.Reply.{Reply}
 use Rattle.store.specs.Answers.{numberOf, valuesOf}
 use Rattle.store.specs.Calls.{replied, told}
-use Rattle.host.specs.declared.spoken.Told.{Told}
+use Rattle.host.specs.declared.spoken.Plain.{Plain}
 use Rattle.host.specs.declared.spoken.Handed.{Handed}
 use Rattle.host.specs.declared.spoken.Asked.{Asked}
 use Rattle.host.specs.declared.spoken.Asked.the-variants.{One, Nothing}
@@ -31,14 +31,14 @@ askedBy kind n =
     (cond (eqb kind 6) (One (Ask Distinct)) Nothing))))))
 
 -- an answer by the request's numbers
-abbrev pub toldOf : Answer → Told
-toldOf a = record { refusal = numberOf a; first = at (valuesOf a) 0; second = at (valuesOf a) 1 }
+abbrev pub plainOf : Answer → Plain
+plainOf a = record { refusal = numberOf a; first = at (valuesOf a) 0; second = at (valuesOf a) 1 }
 
 abbrev pub handed : Reply → Handed
-handed r = record { told = toldOf (r .answer); sheet = r .sheet }
+handed r = record { told = plainOf (r .answer); sheet = r .sheet }
 
 -- what is told where there is no call: the largest number of 64 bits, which is no refusal of the request
-abbrev pub noCall : Told
+abbrev pub noCall : Plain
 noCall = record { refusal = 18446744073709551615; first = zero; second = zero }
 
 -- what the host is handed back

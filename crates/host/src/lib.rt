@@ -1,8 +1,8 @@
 // The store for hosts in other languages: plain numbers and slices, and nothing that a host has to promise.
 ghost use mathlib.Core.Path.{_≡_};
 ghost use Rattle.sets.specs.Rows.{rowsOf};
-ghost use Rattle.distinct.specs.Asked.{answered, listed};
-ghost use Rattle.host.specs.Numbers.{toldKept};
+ghost use Rattle.distinct.specs.Asked.{askAnswer, listed};
+ghost use Rattle.host.specs.Numbers.{plainKept};
 ghost use lib.ListN.{length};
 ghost use Rattle.store.specs.Calls.{begun};
 ghost use Rattle.host.specs.Spoken.{askedBy, handedBy, handed, listOf};
@@ -10,24 +10,24 @@ use distinct::Answer;
 use sheet::Sheet;
 use spoken::Asked;
 use spoken::Handed;
-use spoken::Told;
+use spoken::Plain;
 
 mod spoken; // spoken.rt: calls and answers as plain numbers
 
 // DISTINCT over a view that belongs to no desk. Answers how many positions stand at the front of the list, or a refusal and its row.
 #[no_mangle]
-pub extern "C" fn foliokettle_distinct(d: usize, view: &[u64], list: &mut [usize]) -> Told
-    ensures { λ r. ⌜ (r ≡ toldKept (answered d (rowsOf (now (view .entry))) (length (now (list .entry)))))
-        × (now (list .exit) ≡ listed d (rowsOf (now (view .entry))) (now (list .entry)) (answered d (rowsOf (now (view .entry))) (length (now (list .entry))))) ⌝ }
+pub extern "C" fn foliokettle_distinct(d: usize, view: &[u64], list: &mut [usize]) -> Plain
+    ensures { λ r. ⌜ (r ≡ plainKept (askAnswer d (rowsOf (now (view .entry))) (length (now (list .entry)))))
+        × (now (list .exit) ≡ listed d (rowsOf (now (view .entry))) (now (list .entry)) (askAnswer d (rowsOf (now (view .entry))) (length (now (list .entry))))) ⌝ }
 {
     let answer = distinct::ask(d, view, list);
     match answer {
-        Answer::Kept(n) => Told {
+        Answer::Kept(n) => Plain {
             refusal: 0,
             first: n as u64,
             second: 0,
         },
-        Answer::Refused(refusal) => Told {
+        Answer::Refused(refusal) => Plain {
             refusal: refusals::number(refusal) as u64,
             first: refusals::row(refusal) as u64,
             second: 0,
@@ -63,7 +63,7 @@ pub extern "C" fn foliokettle_call(
 {
     let asked = spoken::heard(kind, n);
     let Asked::One(call) = asked else {
-        let told = Told {
+        let told = Plain {
             refusal: 0xffff_ffff_ffff_ffff,
             first: 0,
             second: 0,
@@ -111,7 +111,7 @@ pub extern "C" fn foliokettle_alter(
     kind: u64,
     n: u64,
     list: &mut [usize],
-) -> Told
+) -> Plain
     ensures { λ r. ⌜ (r ≡ handedBy (askedBy kind n) d (rowsOf (now (table .entry))) (now (sheet .entry)) desk (length (now (list .entry))) .told)
         × (now (sheet .exit) ≡ handedBy (askedBy kind n) d (rowsOf (now (table .entry))) (now (sheet .entry)) desk (length (now (list .entry))) .sheet)
         × (now (list .exit) ≡ listOf (askedBy kind n) d (rowsOf (now (table .entry))) (now (sheet .entry)) desk (now (list .entry))) ⌝ }

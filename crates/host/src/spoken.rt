@@ -1,6 +1,6 @@
 // Calls and answers as plain numbers.
 ghost use mathlib.Core.Path.{_≡_};
-ghost use Rattle.host.specs.Spoken.{askedBy, toldOf};
+ghost use Rattle.host.specs.Spoken.{askedBy, plainOf};
 use sheet::Sheet;
 use store::Answer;
 use store::Call;
@@ -10,7 +10,7 @@ use store::Target;
 
 // The refusal number, 0 where the call is accepted, and the values that the answer returns, 0 where it has none.
 #[repr(C)]
-pub struct Told {
+pub struct Plain {
     pub refusal: u64,
     pub first: u64,
     pub second: u64,
@@ -19,7 +19,7 @@ pub struct Told {
 // What a host is handed back.
 #[repr(C)]
 pub struct Handed {
-    pub told: Told,
+    pub told: Plain,
     pub sheet: Sheet,
 }
 
@@ -57,31 +57,31 @@ pub fn heard(kind: u64, n: u64) -> Asked
     Asked::Nothing
 }
 
-pub fn tell(answer: Answer) -> Told
-    ensures { λ r. ⌜ r ≡ toldOf answer ⌝ }
+pub fn tell(answer: Answer) -> Plain
+    ensures { λ r. ⌜ r ≡ plainOf answer ⌝ }
 {
     match answer {
-        Answer::Done => Told {
+        Answer::Done => Plain {
             refusal: 0,
             first: 0,
             second: 0,
         },
-        Answer::Seen(row) => Told {
+        Answer::Seen(row) => Plain {
             refusal: 0,
             first: sets::as_word(row),
             second: 0,
         },
-        Answer::Counted(rows, held) => Told {
+        Answer::Counted(rows, held) => Plain {
             refusal: 0,
             first: rows as u64,
             second: held as u64,
         },
-        Answer::Listed(n) => Told {
+        Answer::Listed(n) => Plain {
             refusal: 0,
             first: n as u64,
             second: 0,
         },
-        Answer::Refused(refusal) => Told {
+        Answer::Refused(refusal) => Plain {
             refusal: refusals::number(refusal) as u64,
             first: refusals::row(refusal) as u64,
             second: 0,

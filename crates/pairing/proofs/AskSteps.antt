@@ -203,14 +203,14 @@ module _ {v : ℕ} {rows columns : List ℕ} {heavy : ℕ} {p : List ℕ} (A : A
 -- ---- v goes through the rows that hold it
 
 -- The rows that hold v are asked, or in `left`; the pairing is as it was, and the rows asked in between are taken.
-pub record Turn (v : ℕ) (rows p : List ℕ) (asked : ℕ) (p′ : List ℕ) (asked′ left : ℕ) : Type 0 where
+pub record Progress (v : ℕ) (rows p : List ℕ) (asked : ℕ) (p′ : List ℕ) (asked′ left : ℕ) : Type 0 where
   pub more : Inside asked asked′
   pub stuck : Stuck rows p asked p′ asked′
   pub remain : (i : ℕ) → has (at rows i) v ≡ true → (has asked′ i ≡ true) ⊎ (has left i ≡ true)
   pub inside : (i : ℕ) → has left i ≡ true → i < length rows
 
 module _ {v : ℕ} {rows p : List ℕ} {asked : ℕ} where
-  pub turn-start : {columns : List ℕ} {heavy : ℕ} → Index rows columns heavy → Turn v rows p asked p asked (bitOr (at columns v) heavy)
+  pub turn-start : {columns : List ℕ} {heavy : ℕ} → Index rows columns heavy → Progress v rows p asked p asked (bitOr (at columns v) heavy)
   turn-start X = record {
     more = λ i t. t;
     stuck = record { still = refl; closed = λ i t n. absurd (not-both t n) };
@@ -218,7 +218,7 @@ module _ {v : ℕ} {rows p : List ℕ} {asked : ℕ} where
     inside = λ i t. X .inside i v t;
   }
 
-  module _ {p′ : List ℕ} {asked′ left : ℕ} (T : Turn v rows p asked p′ asked′ left) where
+  module _ {p′ : List ℕ} {asked′ left : ℕ} (T : Progress v rows p asked p′ asked′ left) where
     -- no row is left to ask
     pub turn-end : minus left asked′ ≡ zero → OfValue false v rows p asked p′ asked′
     turn-end none = record {
@@ -254,7 +254,7 @@ module _ {v : ℕ} {rows p : List ℕ} {asked : ℕ} where
       ]
 
       -- row i does not hold v
-      pub turn-pass : has (at rows i) v ≡ false → Turn v rows p asked p′ asked′ (minus left (single i))
+      pub turn-pass : has (at rows i) v ≡ false → Progress v rows p asked p′ asked′ (minus left (single i))
       turn-pass n = record {
         more = T .more;
         stuck = T .stuck;
@@ -276,7 +276,7 @@ module _ {v : ℕ} {rows p : List ℕ} {asked : ℕ} where
         }
 
         -- row i has not
-        pub turn-again : r ≡ false → Turn v rows p asked p″ asked″ (minus left (single i))
+        pub turn-again : r ≡ false → Progress v rows p asked p″ asked″ (minus left (single i))
         turn-again f = record {
           more = λ j e. later j (T .more j e);
           stuck = record { still = O .stuck f .still ∙ T .stuck .still; closed = closed };

@@ -21,9 +21,9 @@ use Rattle.theory.specs.Search.{Heard}
 use Rattle.theory.proofs.Places.{not-mate, past, seated?}
 use Rattle.theory.proofs.Sizes.{size-by-d}
 use Rattle.theory.proofs.FailedSearch.{failed-largest}
-use Rattle.pairing.specs.declared.seats.Seats.{Seats}
+use Rattle.pairing.specs.declared.seats.Seating.{Seating}
 use Rattle.pairing.specs.Asking.{Inside, Index, Shut, Asks, Searches, Grown, OfSearch}
-use Rattle.pairing.specs.Seats.{seats, Unreached, Below, Bench, Taking}
+use Rattle.pairing.specs.Seats.{seats, Unreached, Below, Bench, Reseated}
 use Rattle.pairing.proofs.AskSteps.{row-free}
 use Rattle.pairing.proofs.SeatColumns.{left-or-same}
 use Rattle.pairing.proofs.Snoc.{at-open, size-open, seated-open, open-seated, full-mate, row-last, holds-cases, holds-before}
@@ -43,7 +43,7 @@ unfolding aliveMate
 alive-out dead zero a = absurd (not-both a refl)
 alive-out dead (suc w) a = (w, refl, not-true (has dead w) a)
 
-module _ (s : Seats) (R columns p : List ℕ) (B : Bench s R columns p) where
+module _ (s : Seating) (R columns p : List ℕ) (B : Bench s R columns p) where
   -- where a value is free there is a seat for a row more
   pub seat-left : (v : ℕ) → has (bits (s .free)) v ≡ true → length R < seats
   unfolding size
@@ -124,7 +124,7 @@ module _ (s : Seats) (R columns p : List ℕ) (B : Bench s R columns p) where
         not-both (and-right (has row v) (has (bits (s .fresh)) v) both) (B .fresh (q .0) v (B .pairing .holds (q .0) v (q .1) .1)))
 
     pub bench-more : (v : ℕ) → has (bits (s .free)) v ≡ true → (p′ : List ℕ) → Grown (R ++ row ∷ []) v (p ++ zero ∷ []) p′
-        → (s′ : Seats) → Taking s row v s′ → Bench s′ (R ++ row ∷ []) columns p′
+        → (s′ : Seating) → Reseated s row v s′ → Bench s′ (R ++ row ∷ []) columns p′
     bench-more v t p′ G s′ T = record {
       used = omega (arith, longer, B .used, T .used);
       column = omega (arith, B .column, T .d);

@@ -20,9 +20,9 @@ use Rattle.sets.proofs.ValuesBelow.{some-value}
 use Rattle.sets.proofs.RowValues.{lowest-row}
 use Rattle.theory.specs.Pairings.{at}
 use Rattle.theory.proofs.Places.{mate?}
-use Rattle.pairing.specs.declared.seats.Seats.{Seats}
+use Rattle.pairing.specs.declared.seats.Seating.{Seating}
 use Rattle.pairing.specs.Asking.{Inside, Index, Searches, Grown, OfSearch}
-use Rattle.pairing.specs.Seats.{seats, Mates, Unreached, Below, Bench, Sitting, Seeks, Taking, OfSeat}
+use Rattle.pairing.specs.Seats.{seats, Mates, Unreached, Below, Bench, Sitting, Seeks, Reseated, OfSeat}
 use Rattle.pairing.proofs.Benches.{seat-left, bench-more, bench-searches, bench-direct, search-part, search-all, failed-shut}
 use Rattle.pairing.proofs.Benches.{failed-row, bench-other}
 
@@ -55,9 +55,9 @@ module _ {s : Seats} {rows columns mates : List ℕ} (S : Sitting s rows columns
     rows-old = take-set-le (s .used) rows (s .used) row (le-refl (s .used))
 
     -- the row has got the next seat, and the rows the mates p′
-    seat-more : (s₁ s₂ : Seats) (columns′ : List ℕ) (v : ℕ) (p′ mates′ : List ℕ) → s₁ .used ≡ s .used → s₁ .d ≡ s .d
+    seat-more : (s₁ s₂ : Seating) (columns′ : List ℕ) (v : ℕ) (p′ mates′ : List ℕ) → s₁ .used ≡ s .used → s₁ .d ≡ s .d
         → Bench s₁ R columns′ p → has (bits (s₁ .free)) v ≡ true → Grown (R ++ row ∷ []) v (p ++ zero ∷ []) p′ → length mates′ ≡ seats
-        → take (s .used + 1) mates′ ≡ p′ → Taking s₁ row v s₂ → OfSeat row s rows s₂ (set rows (s .used) row) columns′ mates′
+        → take (s .used + 1) mates′ ≡ p′ → Reseated s₁ row v s₂ → OfSeat row s rows s₂ (set rows (s .used) row) columns′ mates′
     seat-more s₁ s₂ columns′ v p′ mates′ same-used same-d B t G wide is T = record {
       sits = record {
         rows-wide = length-set rows (s .used) row ∙ S .rows-wide;
@@ -82,7 +82,7 @@ module _ {s : Seats} {rows columns mates : List ℕ} (S : Sitting s rows columns
         mates-now = ap (λ (n : ℕ). take n mates′) next ∙ is
 
     -- it takes a free value at once
-    pub seat-direct : (v : ℕ) (s′ : Seats) → has (bits (s .free)) v ≡ true → has row v ≡ true → Taking s row v s′
+    pub seat-direct : (v : ℕ) (s′ : Seating) → has (bits (s .free)) v ≡ true → has row v ≡ true → Reseated s row v s′
         → OfSeat row s rows s′ (set rows (s .used) row) columns (set mates (s .used) (v + 1))
     seat-direct v s′ t h T =
         seat-more s s′ columns v (p ++ (v + 1) ∷ []) (set mates (s .used) (v + 1)) refl refl (S .bench) t
@@ -92,19 +92,19 @@ module _ {s : Seats} {rows columns mates : List ℕ} (S : Sitting s rows columns
 -- ---- a search
 
 -- the places when the new row stands at the next one, without a mate
-abbrev pub rowsWith : ℕ → Seats → List ℕ → List ℕ
+abbrev pub rowsWith : ℕ → Seating → List ℕ → List ℕ
 rowsWith row s rows = set rows (s .used) row
 
-abbrev pub matesWith : Seats → List ℕ → List ℕ
+abbrev pub matesWith : Seating → List ℕ → List ℕ
 matesWith s mates = set mates (s .used) zero
 
 -- the seats when the light rows are entered, for a search
-abbrev pub searchedSeats : Seats → Row → Row → Seats
+abbrev pub searchedSeats : Seating → Row → Row → Seating
 searchedSeats s heavy dead =
     record { d = s .d; used = s .used; entered = s .used; free = s .free; dead = dead; fresh = s .fresh; heavy = heavy }
 
 -- what a search has answered, which had the index and the values that a row on a seat holds
-pub record Searched (row : ℕ) (s : Seats) (rows mates columns′ : List ℕ) (heavy′ : Row) (v : ℕ) (p′ : List ℕ) (asked : ℕ) : Type 0 where
+pub record Searched (row : ℕ) (s : Seating) (rows mates columns′ : List ℕ) (heavy′ : Row) (v : ℕ) (p′ : List ℕ) (asked : ℕ) : Type 0 where
   pub index : Index (take (s .used) (rowsWith row s rows)) columns′ (bits heavy′)
   pub from : ℕ
   pub is : from ≡ minus (bits (s .free)) (bits (s .fresh))
@@ -168,7 +168,7 @@ module _ {row : ℕ} {s : Seats} {rows columns mates : List ℕ} (K : Seeks row 
         search-all s (R S) columns (p S) (S .bench) row (K .low) (K .apart)
         (rw (F .is, rows-put S row (K .low) (K .room), mates-put S row (K .low) (K .room) zero) at (F .answer))
 
-    pub seek-found : v < width → (s′ : Seats) → Taking (searchedSeats s heavy′ (s .dead)) row v s′
+    pub seek-found : v < width → (s′ : Seating) → Reseated (searchedSeats s heavy′ (s .dead)) row v s′
         → OfSeat row s rows s′ (rowsWith row s rows) columns′ mates′
     seek-found h s′ T =
         let k = plain .found h in

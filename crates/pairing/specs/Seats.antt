@@ -9,7 +9,7 @@ use lib.ListN.{length, take}
 use Rattle.sets.specs.Sets.{has, single, minus}
 use Rattle.sets.specs.Rows.{width, bits}
 use Rattle.theory.specs.Pairings.{size, at, Seated, Pairing}
-use Rattle.pairing.specs.declared.seats.Seats.{Seats}
+use Rattle.pairing.specs.declared.seats.Seating.{Seating}
 use Rattle.pairing.specs.Asking.{Inside, Index, Shut}
 
 -- how many seats there are: as many as a column can have values, for a row that sits has a value of its own
@@ -38,7 +38,7 @@ abbrev pub Below : ℕ → ℕ → Type 0
 Below d row = (v : ℕ) → has row v ≡ true → v < d
 
 -- The rows R on the seats have the mates p, each row one: a pairing that uses them all.
-pub record Bench (s : Seats) (R columns p : List ℕ) : Type 0 where
+pub record Bench (s : Seating) (R columns p : List ℕ) : Type 0 where
   pub used : length R ≡ s .used
   pub column : s .d ≤ width
   pub pairing : Pairing width R p
@@ -51,21 +51,21 @@ pub record Bench (s : Seats) (R columns p : List ℕ) : Type 0 where
   pub index : Index R columns (bits (s .heavy))
 
 -- the seats in use are the first
-pub record Sitting (s : Seats) (rows columns mates : List ℕ) : Type 0 where
+pub record Sitting (s : Seating) (rows columns mates : List ℕ) : Type 0 where
   pub rows-wide : length rows ≡ seats
   pub mates-wide : length mates ≡ seats
   pub few : s .used ≤ seats
   pub bench : Bench s (take (s .used) rows) columns (take (s .used) mates)
 
 -- the row holds no free value, and there is a seat that it may get
-pub record Seeks (row : ℕ) (s : Seats) (rows columns mates : List ℕ) : Type 0 where
+pub record Seeks (row : ℕ) (s : Seating) (rows columns mates : List ℕ) : Type 0 where
   pub sits : Sitting s rows columns mates
   pub low : Below (s .d) row
   pub apart : bitAnd row (bits (s .free)) ≡ zero
   pub room : s .used < seats
 
 -- the seats are s′ now that v has got a row, and the new row a seat
-pub record Taking (s : Seats) (row v : ℕ) (s′ : Seats) : Type 0 where
+pub record Reseated (s : Seating) (row v : ℕ) (s′ : Seating) : Type 0 where
   pub d : s′ .d ≡ s .d
   pub used : s′ .used ≡ s .used + 1
   pub entered : s′ .entered ≡ s .entered
@@ -75,18 +75,18 @@ pub record Taking (s : Seats) (row v : ℕ) (s′ : Seats) : Type 0 where
   pub heavy : bits (s′ .heavy) ≡ bitOr (bits (s .heavy)) (single (s .used))
 
 -- the row has got no seat: it holds dead values only, or no value is free
-pub record Passed (row : ℕ) (s : Seats) (rows : List ℕ) (s′ : Seats) (rows′ : List ℕ) : Type 0 where
+pub record Passed (row : ℕ) (s : Seating) (rows : List ℕ) (s′ : Seating) (rows′ : List ℕ) : Type 0 where
   pub used : s′ .used ≡ s .used
   pub rows-kept : take (s .used) rows′ ≡ take (s .used) rows
   pub why : Inside row (bits (s′ .dead)) ⊎ (bits (s′ .free) ≡ zero)
 
 -- the row has got the next seat
-pub record Raised (row : ℕ) (s : Seats) (rows : List ℕ) (s′ : Seats) (rows′ : List ℕ) : Type 0 where
+pub record Raised (row : ℕ) (s : Seating) (rows : List ℕ) (s′ : Seating) (rows′ : List ℕ) : Type 0 where
   pub used : s′ .used ≡ s .used + 1
   pub rows-more : take (s′ .used) rows′ ≡ take (s .used) rows ++ row ∷ []
 
 -- what a row is answered that is asked for a seat
-pub record OfSeat (row : ℕ) (s : Seats) (rows : List ℕ) (s′ : Seats) (rows′ columns′ mates′ : List ℕ) : Type 0 where
+pub record OfSeat (row : ℕ) (s : Seating) (rows : List ℕ) (s′ : Seating) (rows′ columns′ mates′ : List ℕ) : Type 0 where
   pub sits : Sitting s′ rows′ columns′ mates′
   pub column : s′ .d ≡ s .d
   pub either : Passed row s rows s′ rows′ ⊎ Raised row s rows s′ rows′

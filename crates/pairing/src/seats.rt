@@ -10,7 +10,7 @@ ghost use Rattle.sets.specs.Sets.{has};
 ghost use Rattle.sets.specs.Rows.{width, bits, rowsOf};
 ghost use Rattle.theory.specs.Pairings.{at};
 ghost use Rattle.pairing.specs.Asking.{Inside};
-ghost use Rattle.pairing.specs.Seats.{seats, Mates, Unreached, Below, Sitting, Seeks, Taking, OfSeat, Hopeless};
+ghost use Rattle.pairing.specs.Seats.{seats, Mates, Unreached, Below, Sitting, Seeks, Reseated, OfSeat, Hopeless};
 use crate::columns;
 use crate::search::search;
 use sets::Row;
@@ -18,7 +18,7 @@ use sets::Row;
 // Beside the seats' rows, columns and mates: `d` is how many values the column has, `free` the values below d that have no row,
 // `dead` values that never come free again, `fresh` values that no row on a seat holds,
 // `heavy` the seats that stand in no column, and those before `entered` are as they should be.
-pub struct Seats {
+pub struct Seating {
     pub d: usize,
     pub used: usize,
     pub entered: usize,
@@ -50,12 +50,12 @@ fn unreached(asked: &[u64; sets::WORDS], mates: &[usize]) -> Row
 }
 
 // The seats when the value v has got a row, and the new row a seat.
-fn taken(s: Seats, row: Row, v: usize) -> Seats
+fn seated(s: Seating, row: Row, v: usize) -> Seating
     requires { ⌜ (v < width) × (s .used < seats) ⌝ }
-    ensures { λ r. ⌜ Taking s (bits row) v r ⌝ }
+    ensures { λ r. ⌜ Reseated s (bits row) v r ⌝ }
 {
     let dead = s.dead;
-    Seats {
+    Seating {
         d: s.d,
         used: s.used + 1,
         entered: s.entered,
@@ -80,7 +80,7 @@ fn near(row: Row, free: Row, fresh: Row) -> usize
 }
 
 // The row holds a value that is free, and takes it.
-fn sit_near(row: Row, s: Seats, rows: &mut [u64], columns: &mut [u64], mates: &mut [usize]) -> Seats
+fn sit_near(row: Row, s: Seating, rows: &mut [u64], columns: &mut [u64], mates: &mut [usize]) -> Seating
     requires { ⌜ Sitting s (rowsOf (now rows)) (rowsOf (now columns)) (now mates) × Below (s .d) (bits row) ⌝ }
     requires { ⌜ bitAnd (bits row) (bits (s .free)) ≢ 0 ⌝ }
     ensures { λ r. ⌜ OfSeat (bits row) s (rowsOf (now (rows .entry))) r (rowsOf (now (rows .exit))) (rowsOf (now (columns .exit)))
@@ -90,7 +90,7 @@ fn sit_near(row: Row, s: Seats, rows: &mut [u64], columns: &mut [u64], mates: &m
     let v = near(row, s.free, s.fresh);
     sets::put_row(rows, used, row);
     mates[used] = v + 1;
-    taken(s, row, v)
+    seated(s, row, v)
 }
 
 // A row that need not seek: no value is free, or the row holds dead values only. A view of one value over and over would search for each row.
@@ -105,7 +105,7 @@ fn hopeless(row: Row, free: Row, dead: Row) -> bool
 
 // The row holds no free value, and a search decides whether it gets a seat. If not, the values that no question reached never come free again.
 // A free value that no row holds would ask in vain, so the search starts from the others: 16 rows of one value would take four times as long.
-fn seek(row: Row, s: Seats, rows: &mut [u64], columns: &mut [u64], mates: &mut [usize]) -> Seats
+fn seek(row: Row, s: Seating, rows: &mut [u64], columns: &mut [u64], mates: &mut [usize]) -> Seating
     requires { ⌜ Seeks (bits row) s (rowsOf (now rows)) (rowsOf (now columns)) (now mates) ⌝ }
     ensures { λ r. ⌜ OfSeat (bits row) s (rowsOf (now (rows .entry))) r (rowsOf (now (rows .exit))) (rowsOf (now (columns .exit)))
         (now (mates .exit)) ⌝ }
@@ -131,8 +131,8 @@ fn seek(row: Row, s: Seats, rows: &mut [u64], columns: &mut [u64], mates: &mut [
     );
     if v < sets::VALUES {
         let dead = s.dead;
-        return taken(
-            Seats {
+        return seated(
+            Seating {
                 d: s.d,
                 used,
                 entered: used,
@@ -146,7 +146,7 @@ fn seek(row: Row, s: Seats, rows: &mut [u64], columns: &mut [u64], mates: &mut [
         );
     }
     let dead = unreached(&asked, &mates[..used]);
-    Seats {
+    Seating {
         d: s.d,
         used,
         entered: used,
@@ -160,11 +160,11 @@ fn seek(row: Row, s: Seats, rows: &mut [u64], columns: &mut [u64], mates: &mut [
 // A row is offered a seat: it takes a free value that it holds, or is hopeless, or seeks.
 pub fn offer(
     row: Row,
-    s: Seats,
+    s: Seating,
     rows: &mut [u64],
     columns: &mut [u64],
     mates: &mut [usize],
-) -> Seats
+) -> Seating
     requires { ⌜ Sitting s (rowsOf (now rows)) (rowsOf (now columns)) (now mates) × Below (s .d) (bits row) ⌝ }
     ensures { λ r. ⌜ OfSeat (bits row) s (rowsOf (now (rows .entry))) r (rowsOf (now (rows .exit))) (rowsOf (now (columns .exit)))
         (now (mates .exit)) ⌝ }

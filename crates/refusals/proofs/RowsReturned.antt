@@ -14,7 +14,7 @@ use Rattle.refusals.specs.declared.Refusal.the-variants.{TooLarge, BadRo
 use Rattle.refusals.specs.declared.Refusal.the-variants.{NoRoom, ShortList, LongView, BadDesks, ShortFile, WrongMark, WrongVersion, BadValues}
 use Rattle.refusals.specs.declared.Refusal.the-variants.{ManyRows, CutShort, RowOver, AllUnknown, FewPlaces}
 use Rattle.refusals.specs.Refusals.{number, row}
-use Rattle.refusals.specs.Cases.{Case, found, place, decided, Rising}
+use Rattle.refusals.specs.Cases.{Case, found, foundAt, decided, Rising}
 use Rattle.refusals.specs.TableCases.{badCase, tableCases}
 use Rattle.refusals.proofs.Outcomes.{outcome, stands, refuses}
 use Rattle.refusals.proofs.GivenExactlyWhen.{own-refusal}
@@ -46,9 +46,9 @@ row-stated AllUnknown a b = refl
 row-stated FewPlaces a b = refl
 
 -- what was found, where a case names it
-pub found-place : (f : Found) → found f ≡ true → f ≡ At (place f)
-found-place Nothing e = absurd (false≢true e)
-found-place (At i) e = refl
+pub found-foundAt : (f : Found) → found f ≡ true → f ≡ At (foundAt f)
+found-foundAt Nothing e = absurd (false≢true e)
+found-foundAt (At i) e = refl
 
 -- the cases of a table, with others behind them
 pub table-rising : (most d : ℕ) (table : List ℕ) (cs : List Case) → Rising 2 cs → Rising 0 (tableCases most d table ++ cs)
@@ -75,4 +75,4 @@ module _ {A : Type 0} (refused : Refusal → A) (numberOf : A → ℕ) (tells : 
       let f = badRow d table in
       let given = own-refusal refused numberOf tells a accepts 0 (tableCases most d table ++ cs) (table-rising most d table cs r) (badCase f)
       (List·Memᴰ·tail (List·Memᴰ·head refl)) e in
-      (place f, given .1, bad-row-at d table (place f) (found-place f (given .0)))
+      (foundAt f, given .1, bad-row-at d table (foundAt f) (found-foundAt f (given .0)))

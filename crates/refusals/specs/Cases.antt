@@ -23,13 +23,13 @@ abbrev pub found : Found → Bool
 found Nothing = false
 found (At i) = true
 
-abbrev pub place : Found → ℕ
-place Nothing = zero
-place (At i) = i
+abbrev pub foundAt : Found → ℕ
+foundAt Nothing = zero
+foundAt (At i) = i
 
 infix 4 _names_
 abbrev pub _names_ : Found → (ℕ → Refusal) → Case
-f names r = found f gives r (place f)
+f names r = found f gives r (foundAt f)
 
 -- the first case that applies is refused; where none does, the answer stands
 unfoldable pub decided : {A : Type 0} → (Refusal → A) → List Case → A → A

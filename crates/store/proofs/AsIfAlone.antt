@@ -15,7 +15,7 @@ use Rattle.store.specs.declared.Call.{Call}
 use Rattle.store.specs.declared.Answer.{Answer}
 use Rattle.store.specs.Answers.{accepted, numberOf}
 use Rattle.store.specs.Calls.{begunAnswer}
-use Rattle.store.specs.Promise.{Turn, Store, ownIn, alone, history, mine, heldBy, properCall, proper, Demand3, classStore}
+use Rattle.store.specs.Promise.{Turn, Store, ownIn, alone, history, mine, heldBy, properCall, properInsert, Demand3, classStore}
 use Rattle.store.proofs.Judging.{good-parts}
 use Rattle.store.proofs.Told.{ten-is}
 use Rattle.store.proofs.ClassKeeps.{class-keeps}
@@ -46,7 +46,7 @@ module _ {d : ℕ} {table : List ℕ} {desks : ℕ} {tell : Store} (keeps : Dema
   module _ (few : desks ≤ mostDesks) where
     -- a desk that sits alone is never refused by 10: 64 rows and 8 for each of 32 desks are fewer than 512
     pub alone-has-room : (past : List Turn) (t : Turn) (k : ℕ) → t .desk ≡ k → numberOf (tell (mine tell k past) t .answer) ≢ 10
-    unfolding ownIn proper
+    unfolding ownIn properInsert
     alone-has-room past t k me e =
         let p = mine tell k past in
         let g = keeps .no-room p t .0 e in

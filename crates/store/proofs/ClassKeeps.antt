@@ -21,7 +21,7 @@ use Rattle.refusals.specs.Cases.{_gives_, decided}
 use Rattle.store.specs.Answers.{accepted, numberOf}
 use Rattle.store.specs.Desks.{serve, listAfter, telling, written}
 use Rattle.store.specs.Calls.{begunAnswer, crowded}
-use Rattle.store.specs.Promise.{Turn, Store, hiddenIn, ownIn, member, alone, history, heldBy, usedBy, owedBy, properCall, proper, Demand3, sheetOn, classStore}
+use Rattle.store.specs.Promise.{Turn, Store, hiddenIn, ownIn, member, alone, history, heldBy, usedBy, owedBy, properCall, properInsert, Demand3, sheetOn, classStore}
 use Rattle.store.proofs.Judging.{Good, good-parts, given, not-given, skipped}
 use Rattle.store.proofs.SheetRuns.{reached, answered-here}
 use Rattle.store.proofs.DeskRuns.{agrees, no-history, held-is, used-is, owed-is}
@@ -63,15 +63,15 @@ module _ {d : ℕ} {table : List ℕ} {desks : ℕ} (good : Good d table desks) 
     unfolding classStore
     told-here = answered-here good (reached good past) (t .desk) (t .call) (length (t .list))
 
-    desk-there : proper d desks t ≡ true → (t .desk < desks) × (properCall d (t .call) ≡ true)
-    unfolding proper
+    desk-there : properInsert d desks t ≡ true → (t .desk < desks) × (properCall d (t .call) ≡ true)
+    unfolding properInsert
     desk-there p =
         (ltb-true (t .desk) desks (and-left (ltb (t .desk) desks) (properCall d (t .call)) p), and-right (ltb (t .desk) desks) (properCall d (t .call)) p)
 
     told-served : t .desk < desks → tell past t .answer ≡ served
     told-served h = told-here ∙ not-given (leb desks (t .desk)) NoDesk served (lt-leb desks (t .desk) h)
 
-    next-accepted : proper d desks t ≡ true → heldBy tell (t .desk) past < promised → accepted (tell past t .answer) ≡ true
+    next-accepted : properInsert d desks t ≡ true → heldBy tell (t .desk) past < promised → accepted (tell past t .answer) ≡ true
     next-accepted p few =
         let q = desk-there p in
         ap accepted (told-served (q .0))
@@ -79,8 +79,8 @@ module _ {d : ℕ} {table : List ℕ} {desks : ℕ} (good : Good d table desks) 
         (omega (arith, ap length (agrees good past (t .desk) (q .0) .rows)))
 
     ten-given : numberOf (tell past t .answer) ≡ 10
-        → (proper d desks t ≡ true) × (promised ≤ heldBy tell (t .desk) past) × (heldBy tell (t .desk) past < mostHeld) × (usedBy tell desks past + owedBy tell desks past ≡ mostPlaces)
-    unfolding proper decided crowded
+        → (properInsert d desks t ≡ true) × (promised ≤ heldBy tell (t .desk) past) × (heldBy tell (t .desk) past < mostHeld) × (usedBy tell desks past + owedBy tell desks past ≡ mostPlaces)
+    unfolding properInsert decided crowded
     ten-given e =
         let p = skipped 10 (leb desks (t .desk)) NoDesk [] served (omega arith) (sym (ap numberOf told-here) ∙ e) in
         let h = leb-false desks (t .desk) (p .0) in
@@ -92,7 +92,7 @@ module _ {d : ℕ} {table : List ℕ} {desks : ℕ} (good : Good d table desks) 
           omega (arith, eqb-true (s .used + owed s) mostPlaces (q .3), used-is good past, owed-is good past),
         )
 
-    given-ten : (proper d desks t ≡ true) × (promised ≤ heldBy tell (t .desk) past) × (heldBy tell (t .desk) past < mostHeld) × (usedBy tell desks past + owedBy tell desks past ≡ mostPlaces)
+    given-ten : (properInsert d desks t ≡ true) × (promised ≤ heldBy tell (t .desk) past) × (heldBy tell (t .desk) past < mostHeld) × (usedBy tell desks past + owedBy tell desks past ≡ mostPlaces)
         → numberOf (tell past t .answer) ≡ 10
     unfolding crowded
     given-ten g =

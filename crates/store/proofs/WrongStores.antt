@@ -31,7 +31,7 @@ use Rattle.refusals.specs.Cases.{_gives_, decided}
 use Rattle.store.specs.Answers.{accepted, numberOf}
 use Rattle.store.specs.Desks.{view, serve, Told}
 use Rattle.store.specs.Calls.{begunAnswer}
-use Rattle.store.specs.Promise.{Turn, Store, hiddenIn, ownIn, member, alone, history, heldBy, usedBy, owedBy, properCall, proper, Demand3, sheetOn, classStore}
+use Rattle.store.specs.Promise.{Turn, Store, hiddenIn, ownIn, member, alone, history, heldBy, usedBy, owedBy, properCall, properInsert, Demand3, sheetOn, classStore}
 use Rattle.store.proofs.Judging.{good-parts, passed, not-given}
 use Rattle.store.proofs.SheetRuns.{reached}
 use Rattle.store.proofs.DeskRuns.{used-is, owed-is}
@@ -78,7 +78,7 @@ module _ {d : ℕ} {table : List ℕ} {desks : ℕ} {tell : Store} (begun : acce
 
   -- what is no insert is never refused by 10
   told-alone : (past : List Turn) (t : Turn) → properCall d (t .call) ≡ false → tell past t ≡ alone d table desks (history tell (t .desk) past) t
-  unfolding proper
+  unfolding properInsert
   told-alone past t off =
       keeps .as-alone past t (λ e. not-both (and-right (ltb (t .desk) desks) (properCall d (t .call)) (keeps .no-room past t .0 e .0)) off)
 
@@ -109,7 +109,7 @@ module _ {d : ℕ} {table : List ℕ} {desks : ℕ} {tell : Store} (begun : acce
   -- ---- a store that always refuses: a fresh class accepts the insert of {a}
 
   pub no-store-always-refuses : ((past : List Turn) (t : Turn) → accepted (tell past t .answer) ≡ false) → ⊥
-  unfolding proper properCall history ownIn
+  unfolding properInsert properCall history ownIn
   no-store-always-refuses refuses =
       let good = good-parts d table desks begun in
       let t = turn zero (Do (Insert (asRow 1))) [] in
@@ -205,7 +205,7 @@ module _ {d : ℕ} {table : List ℕ} {desks : ℕ} {tell : Store} (begun : acce
 
   -- ---- an insert that looks at the 512 places alone: what is owed to desks with fewer than eight rows is kept for them
 
-  pub no-insert-takes-what-is-owed : (past : List Turn) (t : Turn) → proper d desks t ≡ true → promised ≤ heldBy tell (t .desk) past
+  pub no-insert-takes-what-is-owed : (past : List Turn) (t : Turn) → properInsert d desks t ≡ true → promised ≤ heldBy tell (t .desk) past
       → heldBy tell (t .desk) past < mostHeld
       → usedBy tell desks past + owedBy tell desks past ≡ mostPlaces → tell past t ≡ record { answer = Refused NoRoom; list = t .list }
   no-insert-takes-what-is-owed past t p lo hi full =
@@ -214,9 +214,9 @@ module _ {d : ℕ} {table : List ℕ} {desks : ℕ} {tell : Store} (begun : acce
 
   -- ---- a freed place that is lost: 'A freed place can be used by the next insert of any desk that the rules allow', whoever freed it
 
-  pub no-freed-place-is-lost : (past : List Turn) (t : Turn) → proper d desks t ≡ true → heldBy tell (t .desk) past < mostHeld
+  pub no-freed-place-is-lost : (past : List Turn) (t : Turn) → properInsert d desks t ≡ true → heldBy tell (t .desk) past < mostHeld
       → usedBy tell desks past + owedBy tell desks past < mostPlaces → accepted (tell past t .answer) ≡ true
-  unfolding proper alone decided
+  unfolding properInsert alone decided
   no-freed-place-is-lost past t p few room =
       let not-ten : numberOf (tell past t .answer) ≢ 10 = λ e. absurd (omega (arith, keeps .no-room past t .0 e .3)) in
       let h = history tell (t .desk) past in

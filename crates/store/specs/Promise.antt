@@ -92,20 +92,20 @@ properCall d (Do (Insert row)) = within d (bits row)
 properCall d (Do Reset) = false
 properCall d (Ask q) = false
 
-unfoldable pub proper : ℕ → ℕ → Turn → Bool
-proper d desks t = ltb (t .desk) desks && properCall d (t .call)
+unfoldable pub properInsert : ℕ → ℕ → Turn → Bool
+properInsert d desks t = ltb (t .desk) desks && properCall d (t .call)
 
 -- ---- demand 3
 
 pub record Demand3 (d : ℕ) (table : List ℕ) (desks : ℕ) (tell : Store) : Type 0 where
   -- a desk with fewer than eight rows of its own has its next proper insert accepted
-  pub next : (past : List Turn) (t : Turn) → proper d desks t ≡ true → heldBy tell (t .desk) past < promised → accepted (tell past t .answer) ≡ true
+  pub next : (past : List Turn) (t : Turn) → properInsert d desks t ≡ true → heldBy tell (t .desk) past < promised → accepted (tell past t .answer) ≡ true
   -- no desk passes 64, and the class never passes 512
   pub desk-limit : (past : List Turn) (k : ℕ) → heldBy tell k past ≤ mostHeld
   pub class-limit : (past : List Turn) → usedBy tell desks past ≤ mostPlaces
   -- refusal 10 is given exactly to a proper insert of a desk with 8 to 63 rows where every free place is owed
   pub no-room : (past : List Turn) (t : Turn) → (numberOf (tell past t .answer) ≡ 10)
-      ↔ ((proper d desks t ≡ true) × (promised ≤ heldBy tell (t .desk) past) × (heldBy tell (t .desk) past < mostHeld)
+      ↔ ((properInsert d desks t ≡ true) × (promised ≤ heldBy tell (t .desk) past) × (heldBy tell (t .desk) past < mostHeld)
       × (usedBy tell desks past + owedBy tell desks past ≡ mostPlaces))
   -- apart from it, what a desk is told is what it would be told alone
   pub as-alone : (past : List Turn) (t : Turn) → numberOf (tell past t .answer) ≢ 10

@@ -9,7 +9,7 @@ use Rattle.sets.specs.Sets.{has, union}
 use Rattle.theory.specs.Family.{values, selections, choices, valueSet, family}
 use Rattle.theory.specs.Kept.{pick}
 use Rattle.theory.specs.Necessary.{Redundant, Necessary}
-use Rattle.theory.specs.Cases.{a, ab}
+use Rattle.theory.specs.Samples.{a, ab}
 
 abbrev b : ℕ
 b = 0b10

@@ -1,8 +1,8 @@
 -- What a reader looks for, then what it stands on, lowest last.
--- `CasesHold`: P1 to P10, computed. `FamilyIff`: Lemma 3.4. `KeptFamily`, `KeptFewest`: demand 2. `KeptNecessary`: the same in the paper's words.
+-- `SamplesHold`: P1 to P10, computed. `FamilyIff`: Lemma 3.4. `KeptFamily`, `KeptFewest`: demand 2. `KeptNecessary`: the same in the paper's words.
 -- `ExampleHolds`: the paper's Example 2.1. `KeptAnyD`: the kept positions follow from the rows alone.
 -- `NextRow`, `FailedSearch`, `PlacedRows`: what the code needs of pairings that grow.
-pub mod CasesHold
+pub mod SamplesHold
 pub mod FamilyIff
 pub mod KeptFamily
 pub mod KeptFewest

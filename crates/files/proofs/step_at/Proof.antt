@@ -1,7 +1,7 @@
 -- `step_at` meets its contract. Assumes nothing.
 use mathlib.Core.Path.{refl, sym, _∙_}
 use borrow.Author.Tests.{lt-ltb, le-ltb}
-use Rattle.files.specs.Turns.{stepAt}
+use Rattle.files.specs.RowByRow.{stepAt}
 use Rattle.files.proofs.ReadFiles.{readable}
 use borrow.Author.Needs.{needs}
 use Rattle.files.proofs.step_at.Statement.{statement}

@@ -20,10 +20,10 @@ use Rattle.sheet.specs.declared.Sheet.{Sheet}
 use Rattle.sheet.proofs.Sheet as sheets
 use Rattle.sheet.proofs.Sheet.Laws as sheet-laws
 use Rattle.host.specs.Spoken.{askedBy, handedBy, listOf}
-use Rattle.host.specs.declared.spoken.Told.{Told}
+use Rattle.host.specs.declared.spoken.Plain.{Plain}
 use Rattle.host.specs.declared.spoken.Handed.{Handed}
-use Rattle.host.proofs.spoken.Told as told
-use Rattle.host.proofs.spoken.Told.Laws as told-laws
+use Rattle.host.proofs.spoken.Plain as told
+use Rattle.host.proofs.spoken.Plain.Laws as told-laws
 use Rattle.host.proofs.spoken.Handed as handed
 use Rattle.host.proofs.spoken.Handed.Laws as handed-laws
 use Rattle.host.proofs.foliokettle_call as by-value
@@ -50,7 +50,7 @@ ByValue 𝓤 H A mem run = tripleOf 𝓤 H A by-value.signature (by-value.spec �
 abbrev sheet-values : Sheet → List Val
 sheet-values = struct.vals sheets.the-type sheet-laws.the-laws
 
-abbrev told-values : Told → List Val
+abbrev told-values : Plain → List Val
 told-values = struct.vals told.the-type told-laws.the-laws
 
 -- what is handed back is related to its machine values, part by part

@@ -1,6 +1,6 @@
 -- `foliokettle_call` meets its contract. Assumes nothing.
 use mathlib.Core.Path.{refl, sym, ap, _∙_}
-use Rattle.host.specs.Spoken.{toldOf}
+use Rattle.host.specs.Spoken.{plainOf}
 use borrow.Author.Needs.{needs}
 use Rattle.host.proofs.foliokettle_call.Statement.{statement}
 use Rattle.host.proofs.foliokettle_call.Tie as tie
@@ -30,7 +30,7 @@ returns-2 : tie.Need-returns-2
 returns-2 c =
     let call = sym (c .before .before .before .before .before .before .before .before .before .before .before .before .before .before .heard .ensures) ∙ c .before .before .before .before .before .before .before .before .before .before .before .before .asked .given .1 in
     let o = c .before .before .before .carry-out .ensures in
-    (rw call (λ i. record { told = (c .tell .ensures ∙ ap toldOf (o .answer-is)) i; sheet = o .sheet-is i }), rw call (o .list-is))
+    (rw call (λ i. record { told = (c .tell .ensures ∙ ap plainOf (o .answer-is)) i; sheet = o .sheet-is i }), rw call (o .list-is))
 
 pub foliokettle-call-spec : {M : Type 1} → statement M
 foliokettle-call-spec =

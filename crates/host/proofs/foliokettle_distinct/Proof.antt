@@ -6,11 +6,11 @@ use Rattle.refusals.specs.declared.Refusal.{Refusal}
 use Rattle.refusals.specs.Refusals.{number, row}
 use Rattle.distinct.specs.declared.Answer.the-variants.{Refused}
 use Rattle.distinct.specs.Asked.{listed}
-use Rattle.host.specs.Numbers.{toldKept}
+use Rattle.host.specs.Numbers.{plainKept}
 use Rattle.host.proofs.foliokettle_distinct.Statement.{statement}
 use Rattle.host.proofs.foliokettle_distinct.Tie as tie
 
-refused-told : (r : Refusal) (n i : ℕ) → n ≡ number r → i ≡ row r → record { refusal = n; first = i; second = zero } ≡ toldKept (Refused r)
+refused-told : (r : Refusal) (n i : ℕ) → n ≡ number r → i ≡ row r → record { refusal = n; first = i; second = zero } ≡ plainKept (Refused r)
 refused-told r n i p q = λ j. record { refusal = p j; first = q j; second = zero }
 
 ask-requires : tie.Need-ask-requires
@@ -34,7 +34,7 @@ same-length c = search needs
 returns : tie.Need-returns
 returns c =
     let o = c .before .before .before .before .before .ask .ensures in
-    (ap toldKept (sym (c .before .answer .given .1) ∙ o .0), o .1 ∙ ap (listed _ _ _) (o .0))
+    (ap plainKept (sym (c .before .answer .given .1) ∙ o .0), o .1 ∙ ap (listed _ _ _) (o .0))
 
 same-length-2 : tie.Need-same-length-2
 same-length-2 c = search needs
@@ -44,7 +44,7 @@ returns-2 c =
     let o = c .before .before .before .before .before .before .before .ask .ensures in
     let refused = c .before .before .before .answer2 .given in
     let said = refused-told (refused .0 .0) _ _ (c .before .number .ensures) (c .row .ensures) in
-    (said ∙ ap toldKept (sym (refused .1) ∙ o .0), o .1 ∙ ap (listed _ _ _) (o .0))
+    (said ∙ ap plainKept (sym (refused .1) ∙ o .0), o .1 ∙ ap (listed _ _ _) (o .0))
 
 pub foliokettle-distinct-spec : {M : Type 1} → statement M
 foliokettle-distinct-spec =

@@ -33,63 +33,63 @@ past-1 c = rw (le-ltb _ _ (c .if1 .left)) refl
 
 past-2 : (c : tie.Else2) → Past 2 (c .before .before .before .before .args .file .now)
 unfolding judged decided frontCases
-past-2 c = past-1 (c .before .before) ∙ rw (sym (c .before .number .ensures), eq-eqb _ _ (c .if2 .left)) refl
+past-2 c = past-1 (c .before .before) ∙ rw (sym (c .before .big .ensures), eq-eqb _ _ (c .if2 .left)) refl
 
 past-3 : (c : tie.Else3) → Past 3 (c .before .before .before .before .before .before .args .file .now)
 unfolding judged decided frontCases
-past-3 c = past-2 (c .before .before) ∙ rw (sym (c .before .number2 .ensures), eq-eqb _ _ (c .if3 .left)) refl
+past-3 c = past-2 (c .before .before) ∙ rw (sym (c .before .big2 .ensures), eq-eqb _ _ (c .if3 .left)) refl
 
 past-4 : (c : tie.Else5) → Past 4 (c .before .before .before .before .before .before .before .before .before .args .file .now)
 unfolding judged decided frontCases
 past-4 c =
     past-3 (c .before .before .before)
-    ∙ rw (sym (c .before .before .number3 .ensures), ne-eqb _ _ (c .before .if4 .left), le-ltb _ _ (c .if5 .left)) refl
+    ∙ rw (sym (c .before .before .big3 .ensures), ne-eqb _ _ (c .before .if4 .left), le-ltb _ _ (c .if5 .left)) refl
 
 past-5 : (c : tie.Else6) → Past 5 (c .before .before .before .before .before .before .before .before .before .before .before .args .file .now)
 unfolding judged decided frontCases
-past-5 c = past-4 (c .before .before) ∙ rw (sym (c .before .number4 .ensures), le-ltb _ _ (c .if6 .left)) refl
+past-5 c = past-4 (c .before .before) ∙ rw (sym (c .before .big4 .ensures), le-ltb _ _ (c .if6 .left)) refl
 
 past-6 : (c : tie.Else7) → Past 6 (c .before .before .before .before .before .before .before .before .before .before .before .before .args .file .now)
 unfolding judged decided frontCases
-past-6 c = past-5 (c .before) ∙ rw (sym (c .before .before .number4 .ensures), le-ltb _ _ (c .if7 .left)) refl
+past-6 c = past-5 (c .before) ∙ rw (sym (c .before .before .big4 .ensures), le-ltb _ _ (c .if7 .left)) refl
 
 returns : tie.Need-returns
 unfolding judged decided frontCases
 returns c = rw (lt-ltb _ _ (c .if1 .taken)) refl
 
-number-requires : tie.Need-number-requires
-number-requires c κs = search needs
+big-requires : tie.Need-big-requires
+big-requires c κs = search needs
 
 returns-2 : tie.Need-returns-2
 unfolding judged decided frontCases
-returns-2 c = sym (past-1 (c .before .before) ∙ rw (sym (c .before .number .ensures), ne-eqb _ _ (c .if2 .taken)) refl)
+returns-2 c = sym (past-1 (c .before .before) ∙ rw (sym (c .before .big .ensures), ne-eqb _ _ (c .if2 .taken)) refl)
 
-number-requires-2 : tie.Need-number-requires-2
-number-requires-2 c κs = search needs
+big-requires-2 : tie.Need-big-requires-2
+big-requires-2 c κs = search needs
 
 returns-3 : tie.Need-returns-3
 unfolding judged decided frontCases
-returns-3 c = sym (past-2 (c .before .before) ∙ rw (sym (c .before .number2 .ensures), ne-eqb _ _ (c .if3 .taken)) refl)
+returns-3 c = sym (past-2 (c .before .before) ∙ rw (sym (c .before .big2 .ensures), ne-eqb _ _ (c .if3 .taken)) refl)
 
-number-requires-3 : tie.Need-number-requires-3
-number-requires-3 c κs = search needs
+big-requires-3 : tie.Need-big-requires-3
+big-requires-3 c κs = search needs
 
 returns-4 : tie.Need-returns-4
 unfolding judged decided frontCases
-returns-4 c = sym (past-3 (c .before .before) ∙ rw (sym (c .before .number3 .ensures), eq-eqb _ _ (c .if4 .taken)) refl)
+returns-4 c = sym (past-3 (c .before .before) ∙ rw (sym (c .before .big3 .ensures), eq-eqb _ _ (c .if4 .taken)) refl)
 
 returns-5 : tie.Need-returns-5
 unfolding judged decided frontCases
 returns-5 c =
     sym (past-3 (c .before .before .before)
-    ∙ rw (sym (c .before .before .number3 .ensures), ne-eqb _ _ (c .before .if4 .left), lt-ltb _ _ (c .if5 .taken)) refl)
+    ∙ rw (sym (c .before .before .big3 .ensures), ne-eqb _ _ (c .before .if4 .left), lt-ltb _ _ (c .if5 .taken)) refl)
 
-number-requires-4 : tie.Need-number-requires-4
-number-requires-4 c κs = search needs
+big-requires-4 : tie.Need-big-requires-4
+big-requires-4 c κs = search needs
 
 returns-6 : tie.Need-returns-6
 unfolding judged decided frontCases
-returns-6 c = sym (past-4 (c .before .before) ∙ rw (sym (c .before .number4 .ensures), lt-ltb _ _ (c .if6 .taken)) refl)
+returns-6 c = sym (past-4 (c .before .before) ∙ rw (sym (c .before .big4 .ensures), lt-ltb _ _ (c .if6 .taken)) refl)
 
 mul-if7 : tie.Need-mul-if7
 mul-if7 c = search needs
@@ -99,7 +99,7 @@ add-if7 c = search needs
 
 returns-7 : tie.Need-returns-7
 unfolding judged decided frontCases
-returns-7 c = sym (past-5 (c .before) ∙ rw (sym (c .before .before .number4 .ensures), lt-ltb _ _ (c .if7 .taken)) refl)
+returns-7 c = sym (past-5 (c .before) ∙ rw (sym (c .before .before .big4 .ensures), lt-ltb _ _ (c .if7 .taken)) refl)
 
 judge-rows-requires : tie.Need-judge-rows-requires
 judge-rows-requires c κs = search needs
@@ -107,8 +107,8 @@ judge-rows-requires c κs = search needs
 returns-8 : tie.Need-returns-8
 unfolding judged decided frontCases
 returns-8 c =
-    let values = c .before .before .before .before .before .before .number3 .ensures in
-    let count = c .before .before .before .number4 .ensures in
+    let values = c .before .before .before .before .before .before .big3 .ensures in
+    let count = c .before .before .before .big4 .ensures in
     c .judge-rows .ensures ∙ rows-after _ _ _ values count ∙ sym (past-6 (c .before))
 
 pub judge-spec : {M : Type 1} → statement M
@@ -116,14 +116,14 @@ judge-spec =
     tie.close
     (tie.spec
     returns
-    number-requires
+    big-requires
     returns-2
-    number-requires-2
+    big-requires-2
     returns-3
-    number-requires-3
+    big-requires-3
     returns-4
     returns-5
-    number-requires-4
+    big-requires-4
     returns-6
     mul-if7
     add-if7

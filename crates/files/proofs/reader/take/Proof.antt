@@ -18,7 +18,7 @@ use Rattle.walks.proofs.Walk.{says, Stays, stay-none-slice, stay-none, walkOf, 
 use Rattle.walks.proofs.LentLocals.{lies-in, lies-out}
 use denote.Enum.Laws as enum
 use denote.Struct.Laws as struct
-use Rattle.files.specs.Turns.{stepAt, moved}
+use Rattle.files.specs.RowByRow.{stepAt, moved}
 use Rattle.files.specs.declared.reader.Reader.{Reader}
 use Rattle.files.specs.declared.NextRow.{NextRow}
 use Rattle.files.specs.declared.Step.{Step}

@@ -13,7 +13,7 @@ use Rattle.sets.proofs.Values.{with-new}
 use Rattle.sets.proofs.RowValues.{top-row, top-row-none}
 use Rattle.theory.specs.Pairings.{at}
 use Rattle.pairing.specs.Asking.{unasked, Asks, OfRow}
-use Rattle.pairing.proofs.AskSteps.{Turn, asked-there, asked-stored, row-takes, row-asks, row-moved, row-stays, turn-start}
+use Rattle.pairing.proofs.AskSteps.{Progress, asked-there, asked-stored, row-takes, row-asks, row-moved, row-stays, turn-start}
 use Rattle.pairing.proofs.AskSteps.{turn-end, turn-row, turn-less, turn-falls, turn-pass, turn-found, turn-again}
 use borrow.Fn.Kinds.{In}
 use borrow.Fn.PlainCycle.{Measures, is, falls, and}
@@ -55,7 +55,7 @@ ask-value-below t =
 
 abbrev ask-value-Inv-loop : ask-value-lts.InvT-loop
 ask-value-Inv-loop v rows columns heavy mates₀ asked₀ left₀ mates asked left =
-    Turn v (rowsOf rows) mates₀ (at (rowsOf asked₀) 0) mates (at (rowsOf asked) 0) (bits left)
+    Progress v (rowsOf rows) mates₀ (at (rowsOf asked₀) 0) mates (at (rowsOf asked) 0) (bits left)
 
 abbrev ask-value-μ-loop : ask-value-lts.MeasureT-loop
 ask-value-μ-loop v rows columns heavy mates₀ asked₀ left₀ mates asked left = bits left

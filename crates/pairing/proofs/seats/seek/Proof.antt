@@ -148,8 +148,8 @@ search-requires c κs =
       ap (λ (l : List ℕ). at l 0) (rows-zero 1),
     )
 
-taken-requires : tie.Need-taken-requires
-taken-requires c κs = search needs
+seated-requires : tie.Need-seated-requires
+seated-requires c κs = search needs
 
 same-length : tie.Need-same-length
 same-length c = stored (put-of (c .before .before .before .before .before)) .0
@@ -165,7 +165,7 @@ same-length-3 c =
 returns : tie.Need-returns
 returns c =
     let o = c .before .before .before .before .before in
-    rw (stored (put-of o) .1) (seek-found (start o .pre) (searched o) (c .before .before .if1 .taken) (c .taken .result) (c .taken .ensures))
+    rw (stored (put-of o) .1) (seek-found (start o .pre) (searched o) (c .before .before .if1 .taken) (c .seated .result) (c .seated .ensures))
 
 slice-reshare-prefix-unreached : tie.Need-slice-reshare-prefix-unreached
 slice-reshare-prefix-unreached c =
@@ -219,7 +219,7 @@ seek-spec =
     slice-relend-prefix-search
     slice-aggregate-search-2
     search-requires
-    taken-requires
+    seated-requires
     same-length
     same-length-2
     same-length-3

@@ -40,8 +40,8 @@ slice-write-mates c =
     let near = c .before .before .before .before in
     omega (arith, room near, near .before .before .before .before .pre .0 .0 .mates-wide)
 
-taken-requires : tie.Need-taken-requires
-taken-requires c κs = let near = c .before .before .before .before in (near .near .ensures .0, room near)
+seated-requires : tie.Need-seated-requires
+seated-requires c κs = let near = c .before .before .before .before in (near .near .ensures .0, room near)
 
 same-length : tie.Need-same-length
 same-length c = search needs
@@ -57,8 +57,8 @@ returns c =
     let there = room near in
     let stored = rows-stored _ _ _ _ (put .put-row .ensures) (omega (arith, there, e .pre .0 .0 .rows-wide)) in
     rw (stored .1)
-    (seat-direct (e .pre .0 .0) (bits (e .args .row)) (e .pre .0 .1) there (near .near .result) (c .taken .result) (near .near .ensures .1)
-    (near .near .ensures .2) (c .taken .ensures))
+    (seat-direct (e .pre .0 .0) (bits (e .args .row)) (e .pre .0 .1) there (near .near .result) (c .seated .result) (near .near .ensures .1)
+    (near .near .ensures .2) (c .seated .ensures))
 
 pub sit-near-spec : {M : Type 1} → statement M
 sit-near-spec =
@@ -69,7 +69,7 @@ sit-near-spec =
     add-mates
     mul-mates
     slice-write-mates
-    taken-requires
+    seated-requires
     same-length
     same-length-2
     returns)

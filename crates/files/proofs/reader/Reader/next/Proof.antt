@@ -17,7 +17,7 @@ use Rattle.walks.proofs.Walk.{Contract, Triple, calls-at, ensured, lasts, Vals,
 use Rattle.walks.proofs.Walk.{says, Stays, stay-ref, walkOf, goes-ref, Walks, ends-at, walked, walk-meets}
 use denote.Enum.Laws as enum
 use denote.Struct.Laws as struct
-use Rattle.files.specs.Turns.{stepAt}
+use Rattle.files.specs.RowByRow.{stepAt}
 use Rattle.files.specs.declared.reader.Reader.{Reader}
 use Rattle.files.specs.declared.NextRow.{NextRow}
 use Rattle.files.specs.declared.Step.{Step}

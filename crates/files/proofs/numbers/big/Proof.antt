@@ -1,4 +1,4 @@
--- `number` meets its contract. The invariant: the value is that of the bytes before the next. Assumes nothing.
+-- `big` meets its contract. The invariant: the value is that of the bytes before the next. Assumes nothing.
 use Prim.Native.Nat.{ℕ, _+_, _-_, _*_, _≤_, _<_}
 use mathlib.Core.Path.{_≡_, refl, sym, ap, _∙_}
 use native.Mathlib.Omega.{arith}
@@ -6,8 +6,8 @@ use borrow.Author.Needs.{needs}
 use lib.ListN.{getD}
 use Rattle.files.specs.Bytes.{big}
 use Rattle.files.proofs.ByteLaws.{cap, cap-fits, cap-next, big-next}
-use Rattle.files.proofs.numbers.number.Statement.{statement}
-use Rattle.files.proofs.numbers.number.Tie as tie
+use Rattle.files.proofs.numbers.big.Statement.{statement}
+use Rattle.files.proofs.numbers.big.Tie as tie
 
 abbrev Inv-loop : tie.InvT-loop
 Inv-loop file from n value₀ next₀ value next = (next ≤ n) × (value ≡ big file from next) × (value < cap next)
@@ -72,8 +72,8 @@ returns c =
     let all : l .next ≡ e .args .n = omega (arith, l .inv .0, c .loop-test .left) in
     l .inv .1 ∙ ap (λ (k : ℕ). big (e .args .file .now) (e .args .from) k) all
 
-pub number-spec : {M : Type 1} → statement M
-number-spec =
+pub big-spec : {M : Type 1} → statement M
+big-spec =
     tie.close
     (tie.spec
     Inv-loop

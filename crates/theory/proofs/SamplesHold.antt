@@ -6,9 +6,9 @@ use Rattle.sets.specs.Sets.{has, union, subset, proper}
 use Rattle.theory.specs.Family.{values, selections, choices, valueSet, family}
 use Rattle.theory.specs.Pairings.{mates, among, once, onces, pairings, size, most, rank}
 use Rattle.theory.specs.Kept.{pick, minimal, firstsAfter, firsts, try, tries, marks, positions, kept}
-use Rattle.theory.specs.Cases.{Case, cases, ab, c, cd, ce, d}
+use Rattle.theory.specs.Samples.{Sample, samples, ab, c, cd, ce, d}
 
-pub cases-hold : map (λ (k : Case). kept 6 (k .view)) cases ≡ map (λ (k : Case). k .keeps) cases
+pub cases-hold : map (λ (k : Sample). kept 6 (k .view)) samples ≡ map (λ (k : Sample). k .keeps) samples
 unfolding flatMap has subset proper values selections mates among once onces pairings size most rank pick minimal firstsAfter firsts try tries marks positions kept
 cases-hold = refl
 
