@@ -1,4 +1,4 @@
--- What any caller is askAnswer, case by case, and what is known of a view that may be asked about. Assumes nothing.
+-- What any caller is answered, case by case, and what is known of a view that may be asked about. Assumes nothing.
 use Prim.Native.Nat.{ℕ, zero, suc, _<_, _≤_}
 use mathlib.Core.Path.{_≡_, refl, ap, _∙_}
 use mathlib.Core.Bool.{Bool, false, cond}
@@ -8,7 +8,7 @@ use lib.ListN.{length, replicate, take}
 use borrow.Author.Tests.{lt-ltb, le-ltb}
 use Rattle.sets.specs.Limits.{mostInView}
 use Rattle.sets.proofs.BadRows.{bad-row-none}
-use Rattle.minimal.specs.Marking.{NoMarks}
+use Rattle.minimal.specs.code.Marking.{NoMarks}
 use Rattle.theory.specs.Kept.{kept}
 use Rattle.refusals.specs.declared.Refusal.{Refusal}
 use Rattle.refusals.specs.declared.Refusal.the-variants.{ShortList}
@@ -18,7 +18,8 @@ use Rattle.refusals.proofs.Outcomes.{NoneApplies, Gives, stands-first, refuses-
 use Rattle.refusals.proofs.TablesJudged.{right-parts}
 use Rattle.distinct.specs.declared.Answer.{Answer}
 use Rattle.distinct.specs.declared.Answer.the-variants.{Kept, Refused}
-use Rattle.distinct.specs.Asked.{Askable, placeCases, askCases, askAnswer}
+use Rattle.distinct.specs.Asked.{placeCases, askCases, askAnswer}
+use Rattle.distinct.specs.code.Steps.{Askable}
 
 module _ (d : ℕ) (view : List ℕ) where
   abbrev accepts : Answer

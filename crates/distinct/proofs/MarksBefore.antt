@@ -8,7 +8,7 @@ use native.Mathlib.Numerals.{add-one}
 use native.Mathlib.Omega.{arith}
 use lib.ListN.{length, set}
 use Rattle.theory.specs.Kept.{marked}
-use Rattle.distinct.specs.Steps.{before}
+use Rattle.distinct.specs.code.Steps.{before}
 
 pub length-before : (n : ℕ) (ms : List Bool) → length (before n ms) ≡ length ms
 unfolding before

@@ -14,8 +14,8 @@ use Rattle.theory.specs.Pairings.{at}
 use Rattle.theory.specs.Kept.{marked, tries}
 use Rattle.theory.proofs.NextRow.{tries-none, try-marked}
 use Rattle.pairing.specs.declared.seats.Seating.{Seating}
-use Rattle.pairing.specs.Seats.{OfSeat}
-use Rattle.distinct.specs.Steps.{before, Pairs, offered, marksThen}
+use Rattle.pairing.specs.code.Seats.{OfSeat}
+use Rattle.distinct.specs.code.Steps.{before, Pairs, offered, marksThen}
 use Rattle.distinct.proofs.MarksBefore.{length-before, before-none, before-all, before-marked, before-unmarked}
 use Rattle.distinct.proofs.RowSteps.{pairs-marked, pairs-kept, pairs-passed, tried-more}
 
@@ -41,20 +41,20 @@ pub record Offering (b : Bool) (view : List ℕ) (ms₀ ms : List Bool) (n : ℕ
   pub pairs : Pairs view (offered b n ms) s rows columns mates
   pub marks : ms ≡ marksThen b view n ms₀
 
-pub offering-start : (b : Bool) {view : List ℕ} {ms : List Bool} {s : Seats} {rows columns mates : List ℕ}
+pub offering-start : (b : Bool) {view : List ℕ} {ms : List Bool} {s : Seating} {rows columns mates : List ℕ}
     → Pairs view (offered b zero ms) s rows columns mates → Offering b view ms ms zero s rows columns mates
 unfolding marksThen
 offering-start true P = record { bound = omega arith; pairs = P; marks = refl }
 offering-start false {view} {ms} P = record { bound = omega arith; pairs = P; marks = tries-none width view zero ms }
 
 -- there are as many marks as rows
-pub offering-long : (b : Bool) {view : List ℕ} {ms₀ ms : List Bool} {n : ℕ} {s : Seats} {rows columns mates : List ℕ}
+pub offering-long : (b : Bool) {view : List ℕ} {ms₀ ms : List Bool} {n : ℕ} {s : Seating} {rows columns mates : List ℕ}
     → Offering b view ms₀ ms n s rows columns mates → length ms ≡ length view
 unfolding offered
 offering-long true {ms = ms} {n = n} O = sym (length-before n ms) ∙ O .pairs .stands .fits
 offering-long false O = O .pairs .stands .fits
 
-pub offering-end : (b : Bool) {view : List ℕ} {ms₀ ms : List Bool} {n : ℕ} {s : Seats} {rows columns mates : List ℕ}
+pub offering-end : (b : Bool) {view : List ℕ} {ms₀ ms : List Bool} {n : ℕ} {s : Seating} {rows columns mates : List ℕ}
     → Offering b view ms₀ ms n s rows columns mates → length view ≤ n
     → (ms ≡ marksThen b view (length view) ms₀) × Pairs view ms s rows columns mates
 unfolding offered marksThen
@@ -63,7 +63,7 @@ offering-end true {view} {ms₀} {ms} {n} {s} {rows} {columns} {mates} O h =
 offering-end false {view} {ms₀} {n = n} O h =
     let all : n ≡ length view = omega (arith, O .bound) in (O .marks ∙ ap (λ (k : ℕ). tries width view k zero ms₀) all, O .pairs)
 
-module _ {view : List ℕ} {ms₀ ms : List Bool} {n : ℕ} {s : Seats} {rows columns mates : List ℕ} (h : n < length view) where
+module _ {view : List ℕ} {ms₀ ms : List Bool} {n : ℕ} {s : Seating} {rows columns mates : List ℕ} (h : n < length view) where
   -- row n has the other mark
   pub offering-other : (b : Bool) → Offering b view ms₀ ms n s rows columns mates → (marked ms n ≡ b → ⊥)
       → Offering b view ms₀ ms (n + 1) s rows columns mates
@@ -82,7 +82,7 @@ module _ {view : List ℕ} {ms₀ ms : List Bool} {n : ℕ} {s : Seats} {rows co
       there : marked ms n ≡ true
       there = elim (true-or-false (marked ms n)) [ inl t ↦ t | inr f ↦ absurd (other f) ]
 
-  module _ {s′ : Seats} {rows′ columns′ mates′ : List ℕ} (A : OfSeat (at view n) s rows s′ rows′ columns′ mates′) where
+  module _ {s′ : Seating} {rows′ columns′ mates′ : List ℕ} (A : OfSeat (at view n) s rows s′ rows′ columns′ mates′) where
     marked-more : Offering true view ms₀ ms n s rows columns mates → marked ms n ≡ true → Pairs view (before (n + 1) ms) s′ rows′ columns′ mates′
     unfolding offered
     marked-more O same =
@@ -113,7 +113,7 @@ module _ {view : List ℕ} {ms₀ ms : List Bool} {n : ℕ} {s : Seats} {rows co
 -- ---- the turns
 
 -- the marked rows have been offered seats: the others are next
-pub turn-over : (b : Bool) {view : List ℕ} {ms ms′ : List Bool} {s : Seats} {rows columns mates : List ℕ} → b ≡ true
+pub turn-over : (b : Bool) {view : List ℕ} {ms ms′ : List Bool} {s : Seating} {rows columns mates : List ℕ} → b ≡ true
     → (ms′ ≡ marksThen b view (length view) ms) × Pairs view ms′ s rows columns mates
     → Pairs view (offered false zero ms′) s rows columns mates × (ms′ ≡ ms)
 unfolding offered marksThen

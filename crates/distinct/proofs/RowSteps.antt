@@ -14,10 +14,10 @@ use Rattle.theory.specs.Kept.{marked, try, tries, rowsAt}
 use Rattle.theory.proofs.NextRow.{tries-next}
 use Rattle.theory.proofs.PlacedRows.{raised-stands, raised-kept, passed-by, passed-stands}
 use Rattle.pairing.specs.declared.seats.Seating.{Seating}
-use Rattle.pairing.specs.Seats.{Below, Bench, Passed, Raised, OfSeat}
+use Rattle.pairing.specs.code.Seats.{Below, Bench, Passed, Raised, OfSeat}
 use Rattle.pairing.proofs.Benches.{passed-largest}
 use Rattle.pairing.proofs.Snoc.{size-open}
-use Rattle.distinct.specs.Steps.{Pairs}
+use Rattle.distinct.specs.code.Steps.{Pairs}
 
 rows-snoc : (view is : List ℕ) (x : ℕ) → rowsAt view (is ++ x ∷ []) ≡ rowsAt view is ++ at view x ∷ []
 rows-snoc view [] x = refl
@@ -25,9 +25,9 @@ rows-snoc view (i ∷ is) x = ap (λ (l : List ℕ). at view i ∷ l) (rows-snoc
 
 -- ---- row i is asked for a seat
 
-module _ {view : List ℕ} {ms : List Bool} {s : Seats} {rows columns mates : List ℕ} (G : Pairs view ms s rows columns mates)
+module _ {view : List ℕ} {ms : List Bool} {s : Seating} {rows columns mates : List ℕ} (G : Pairs view ms s rows columns mates)
     {i : ℕ} (h : i < length view) (n : marked ms i ≡ false)
-    {s′ : Seats} {rows′ columns′ mates′ : List ℕ} (O : OfSeat (at view i) s rows s′ rows′ columns′ mates′) where
+    {s′ : Seating} {rows′ columns′ mates′ : List ℕ} (O : OfSeat (at view i) s rows s′ rows′ columns′ mates′) where
   abbrev is : List ℕ
   is = G .places
 

@@ -10,7 +10,7 @@ use lib.Bits.{bitOr}
 use lib.ListN.{length, replicate, length-replicate}
 use Rattle.sets.specs.declared.Row.{Row}
 use Rattle.sets.specs.Rows.{width, bits}
-use Rattle.pairing.specs.Seats.{seats}
+use Rattle.pairing.specs.code.Seats.{seats}
 use Rattle.sets.specs.Sets.{has, within}
 use Rattle.sets.proofs.Bools.{not-both}
 use Rattle.sets.proofs.Values.{has-empty}
@@ -23,9 +23,9 @@ use Rattle.theory.proofs.PairingSteps.{pairing-nil}
 use Rattle.theory.proofs.Sizes.{size-by-rows}
 use Rattle.theory.proofs.Enumerations.{rank-met}
 use Rattle.pairing.specs.declared.seats.Seating.{Seating}
-use Rattle.pairing.specs.Seats.{Below, Bench}
-use Rattle.minimal.specs.Marking.{NoneEmpty}
-use Rattle.distinct.specs.Steps.{InColumn, before, Pairs, offered}
+use Rattle.pairing.specs.code.Seats.{Below, Bench}
+use Rattle.minimal.specs.code.Marking.{NoneEmpty}
+use Rattle.distinct.specs.code.Steps.{InColumn, before, Pairs, offered}
 use Rattle.distinct.proofs.MarksBefore.{length-before}
 
 at-zeros : (n i : ℕ) → at (replicate n zero) i ≡ zero

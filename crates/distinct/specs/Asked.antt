@@ -1,5 +1,5 @@
--- What DISTINCT asks of its callers, and what is askAnswer to any caller, about a view that belongs to no desk.
-use Prim.Native.Nat.{ℕ, zero, _≤_}
+-- What is answered to any caller of DISTINCT, about a view that belongs to no desk.
+use Prim.Native.Nat.{ℕ, zero}
 use mathlib.Core.List.{List, [], _∷_, _++_}
 use lib.Dec.{ltb}
 use lib.ListN.{length, drop}
@@ -11,13 +11,6 @@ use Rattle.refusals.specs.TableCases.{tableCases}
 use Rattle.theory.specs.Kept.{kept}
 use Rattle.distinct.specs.declared.Answer.{Answer}
 use Rattle.distinct.specs.declared.Answer.the-variants.{Kept, Refused}
-use Rattle.distinct.specs.Steps.{InColumn}
-
--- the rows of a column with d values, no more than a view may have, and a place for each in the list
-pub record Askable (d : ℕ) (view list : List ℕ) : Type 0 where
-  pub few : length view ≤ mostInView
-  pub room : length view ≤ length list
-  pub column : InColumn d view
 
 -- ---- an answer by the request's numbers
 
@@ -29,7 +22,7 @@ abbrev pub rowOf : Answer → ℕ
 rowOf (Kept n) = zero
 rowOf (Refused r) = row r
 
--- ---- what is askAnswer
+-- ---- what is answered
 
 -- 11: 'the lent list has fewer places than the view has rows'
 abbrev pub placeCases : List ℕ → ℕ → List Case

@@ -1,3 +1,4 @@
--- `Asked`: what DISTINCT asks of its callers, and what any caller is askAnswer. `Steps`: what the contracts of the two steps speak of.
+-- `Asked`: what is answered to any caller, about a view that belongs to no desk.
+-- `code`: words that only loops, their contracts and their proofs use.
 pub mod Asked
-pub mod Steps
+pub mod code

@@ -5,9 +5,9 @@ ghost use lib.ListN.{length, replicate};
 ghost use Rattle.sets.specs.Limits.{mostInView};
 ghost use Rattle.sets.specs.Rows.{width, rowsOf};
 ghost use Rattle.theory.specs.Kept.{marks, tries};
-ghost use Rattle.minimal.specs.Marking.{NoMarks};
-ghost use Rattle.pairing.specs.Seats.{seats};
-ghost use Rattle.distinct.specs.Steps.{InColumn, Places, Pairs, offered, marksThen};
+ghost use Rattle.minimal.specs.code.Marking.{NoMarks};
+ghost use Rattle.pairing.specs.code.Seats.{seats};
+ghost use Rattle.distinct.specs.code.Steps.{InColumn, Places, Pairs, offered, marksThen};
 use pairing::seats::Seating;
 
 // A row that has a mate sits on a seat, and there are no more mates than values.

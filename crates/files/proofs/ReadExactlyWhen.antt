@@ -9,9 +9,9 @@ use borrow.Author.Tests.{not-true, not-false}
 use Rattle.sets.specs.Sets.{below}
 use Rattle.sets.proofs.Bools.{not-both}
 use Rattle.refusals.specs.declared.Refusal.the-variants.{RowOver}
-use Rattle.refusals.specs.Cases.{_names_, place, Given, Rising}
+use Rattle.refusals.specs.Cases.{_names_, foundAt, Given, Rising}
 use Rattle.refusals.proofs.GivenExactlyWhen.{low-never, given-exactly-when, own-refusal, none-given}
-use Rattle.refusals.proofs.RowsReturned.{found-place, no-row}
+use Rattle.refusals.proofs.RowsReturned.{found-at, no-row}
 use Rattle.files.specs.declared.Lesson.{Lesson}
 use Rattle.files.specs.declared.Lesson.the-variants.{Read, Refused}
 use Rattle.files.specs.Files.{valuesIn, countIn, rowIn}
@@ -61,8 +61,8 @@ module _ (file : List ℕ) (places : ℕ) where
   row-over-returns e =
       let member = Memᴰ·append-left (placeCases file places) (Memᴰ·append-right (frontCases file) (List·Memᴰ·head refl)) in
       let own = own-refusal Refused numberOf (λ r. refl) accepts refl 19 (readCases file places) read-rising (rowOver file names RowOver) member e in
-      let i = place (rowOver file) in
-      let lowest = lowest-says (λ j. not (below (valuesIn file) (rowIn file j))) (countIn file) i (found-place (rowOver file) (own .0)) in
+      let i = foundAt (rowOver file) in
+      let lowest = lowest-says (λ j. not (below (valuesIn file) (rowIn file j))) (countIn file) i (found-at (rowOver file) (own .0)) in
       rw (ap rowOf (own .1)) (
         lowest .inside,
         not-true (below (valuesIn file) (rowIn file i)) (lowest .passes),

@@ -1,5 +1,5 @@
 -- `Bytes`: numbers in bytes. `Rows`: the first n rows. `Files`: what a lesson file says. `FileCases`: when it is refused.
--- `Reading`: what is readAnswer, and what `read` leaves. `RowByRow`: the reader, row by row.
+-- `Reading`: what is answered, and what `read` leaves. `RowByRow`: the reader, row by row.
 pub mod Bytes
 pub mod Rows
 pub mod Files

@@ -18,7 +18,7 @@ use Rattle.sets.proofs.Values.{has-and, has-empty, has-single}
 use Rattle.sets.proofs.Subsets.{subset-has}
 use Rattle.sets.proofs.ValuesBelow.{some-value}
 use Rattle.theory.specs.Pairings.{at}
-use Rattle.minimal.specs.Marking.{Singles, Clear, Repeats, Candidate}
+use Rattle.minimal.specs.code.Marking.{Singles, Clear, Repeats, Candidate}
 
 -- ---- two sets
 

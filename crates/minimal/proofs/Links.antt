@@ -12,7 +12,7 @@ use Rattle.sets.specs.Rows.{width}
 use Rattle.sets.proofs.Values.{with-old, with-new}
 use Rattle.theory.specs.Pairings.{at}
 use Rattle.theory.proofs.Places.{at-same, at-other}
-use Rattle.minimal.specs.Marking.{Candidate, InChain, FirstFrom, Past, Chains, Sizes}
+use Rattle.minimal.specs.code.Marking.{Candidate, InChain, FirstFrom, Past, Chains, Sizes}
 
 -- ---- the start
 

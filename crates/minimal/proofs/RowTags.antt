@@ -18,7 +18,7 @@ use Rattle.sets.proofs.Subsets.{subset-same}
 use Rattle.sets.proofs.RowValues.{tag-less}
 use Rattle.theory.specs.Pairings.{at}
 use Rattle.theory.proofs.Places.{stored, at-same, at-other}
-use Rattle.minimal.specs.Marking.{Scanned, tagWords, hasTag, withTag, ToTest}
+use Rattle.minimal.specs.code.Marking.{Scanned, tagWords, hasTag, withTag, ToTest}
 use Rattle.minimal.proofs.Counts.{proper-fewer}
 
 -- the rows found from `base` on have k values, and their tags are among the tags

@@ -14,7 +14,7 @@ use Rattle.sets.specs.Rows.{width, rowsOf}
 use Rattle.sets.proofs.ValuesBelow.{subset-outside}
 use Rattle.sets.proofs.LentRows.{rows-less}
 use Rattle.theory.specs.Pairings.{at}
-use Rattle.minimal.specs.Marking.{Scanned}
+use Rattle.minimal.specs.code.Marking.{Scanned}
 
 -- row m of mins has a value of `others`
 abbrev pub meets : List ℕ → ℕ → ℕ → Bool

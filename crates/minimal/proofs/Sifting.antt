@@ -22,7 +22,7 @@ use Rattle.theory.specs.Kept.{marked, pick, firsts}
 use Rattle.theory.proofs.Places.{at-same, at-other}
 use Rattle.theory.proofs.Marks.{mark-same}
 use Rattle.theory.proofs.MinimalRows.{length-firsts}
-use Rattle.minimal.specs.Marking.{NoneEmpty, Candidate, Before, Marks, SomeWithin, NoneWithin, Sieve, InChain, FirstFrom, Chains, Sizes}
+use Rattle.minimal.specs.code.Marking.{NoneEmpty, Candidate, Before, Marks, SomeWithin, NoneWithin, Sieve, InChain, FirstFrom, Chains, Sizes}
 use Rattle.minimal.proofs.Apart.{single-only, subset-clear, leader}
 use Rattle.minimal.proofs.Counts.{proper-fewer, some-ones, marked-most, marked-more}
 use Rattle.minimal.proofs.FirstRows.{Strikes, first-yes, first-no}

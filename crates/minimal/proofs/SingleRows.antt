@@ -20,7 +20,7 @@ use Rattle.sets.proofs.ValuesBelow.{some-value}
 use Rattle.theory.specs.Pairings.{at}
 use Rattle.theory.specs.Kept.{marked, firsts}
 use Rattle.theory.proofs.Marks.{mark-same, mark-cases}
-use Rattle.minimal.specs.Marking.{NoMarks, NoneEmpty, IsSingle, Alone, Singles, Clear, Before, Marks}
+use Rattle.minimal.specs.code.Marking.{NoMarks, NoneEmpty, IsSingle, Alone, Singles, Clear, Before, Marks}
 use Rattle.minimal.proofs.Apart.{apart, common, single-only, apart-clear, repeats?}
 use Rattle.minimal.proofs.FirstRows.{Strikes, equal-strikes, first-yes, first-no}
 

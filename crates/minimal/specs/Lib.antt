@@ -1,2 +1,3 @@
--- `Marking`: which rows are marked so far, and how rows are chained by how many values they have.
-pub mod Marking
+-- Nothing to believe here: the marks that the first step comes to are `firsts` of `theory`.
+-- `code`: words that only loops, their contracts and their proofs use.
+pub mod code

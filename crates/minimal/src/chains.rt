@@ -5,7 +5,7 @@ ghost use Prim.Native.Nat.{_+_, _≤_, _<_};
 ghost use lib.ListN.{length};
 ghost use Rattle.sets.specs.Limits.{mostInView};
 ghost use Rattle.sets.specs.Rows.{width, bits, rowsOf};
-ghost use Rattle.minimal.specs.Marking.{NoneEmpty, Singles, Repeats, Past, Chains, Sizes};
+ghost use Rattle.minimal.specs.code.Marking.{NoneEmpty, Singles, Repeats, Past, Chains, Sizes};
 use sets::Row;
 
 // How many sizes a row can have: from no value to all of them.

@@ -7,7 +7,7 @@ ghost use lib.ListN.{length};
 ghost use Rattle.sets.specs.Limits.{mostInView};
 ghost use Rattle.sets.specs.Rows.{rowsOf};
 ghost use Rattle.theory.specs.Kept.{firsts};
-ghost use Rattle.minimal.specs.Marking.{NoMarks, NoneEmpty};
+ghost use Rattle.minimal.specs.code.Marking.{NoMarks, NoneEmpty};
 
 mod singles; // singles.rt: the rows of one value
 mod chains; // chains.rt: the other rows, in chains by how many values they have

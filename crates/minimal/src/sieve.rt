@@ -5,7 +5,7 @@ ghost use lib.ListN.{length};
 ghost use Rattle.sets.specs.Limits.{mostInView};
 ghost use Rattle.sets.specs.Rows.{width, bits, rowsOf};
 ghost use Rattle.theory.specs.Kept.{firsts};
-ghost use Rattle.minimal.specs.Marking.{NoneEmpty, Singles, Marks, Scanned, Chains, Sieve};
+ghost use Rattle.minimal.specs.code.Marking.{NoneEmpty, Singles, Marks, Scanned, Chains, Sieve};
 use crate::chains;
 use crate::chains::SIZES;
 use crate::tags;

@@ -4,7 +4,7 @@ ghost use mathlib.Core.Logic.{_≢_};
 ghost use Prim.Native.Nat.{zero};
 ghost use lib.ListN.{length};
 ghost use Rattle.sets.specs.Rows.{bits, rowsOf};
-ghost use Rattle.minimal.specs.Marking.{NoMarks, NoneEmpty, IsSingle, Singles, Marks};
+ghost use Rattle.minimal.specs.code.Marking.{NoMarks, NoneEmpty, IsSingle, Singles, Marks};
 use sets::Row;
 
 // The row has one value.

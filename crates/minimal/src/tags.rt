@@ -2,7 +2,7 @@
 ghost use mathlib.Core.Path.{_≡_};
 ghost use Prim.Native.Nat.{_<_};
 ghost use lib.ListN.{length};
-ghost use Rattle.minimal.specs.Marking.{tagWords, mostTags, hasTag, withTag, ToTest};
+ghost use Rattle.minimal.specs.code.Marking.{tagWords, mostTags, hasTag, withTag, ToTest};
 
 // The words that the tags fill, a bit for each tag that `sets::tag` can answer. (No limit of the request.)
 pub const TAG_WORDS: usize = 8;

@@ -2,7 +2,7 @@
 use sheet::Sheet;
 use show::Tally;
 use show::say;
-use turns::Told;
+use turns::Plain;
 use turns::Turn;
 
 const TURNS: usize = 900;
@@ -51,7 +51,7 @@ fn mixed(sum: u64, n: u64) -> u64 {
     std::num::wrapping_add_u64(std::num::wrapping_add_u64(twice, sum), n)
 }
 
-fn mixed_in(sum: u64, told: Told) -> u64 {
+fn mixed_in(sum: u64, told: Plain) -> u64 {
     mixed(
         mixed(mixed(mixed(sum, told.refusal), told.first), told.second),
         told.kept,

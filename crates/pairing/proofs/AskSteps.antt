@@ -23,7 +23,7 @@ use Rattle.sets.proofs.LentRows.{rows-length, rows-stored}
 use Rattle.theory.specs.Pairings.{at, Seated, Pairing}
 use Rattle.theory.proofs.Places.{not-mate, at-same, at-other, stored, size-more, size-same}
 use Rattle.theory.proofs.PairingSteps.{pairing-put}
-use Rattle.pairing.specs.Asking.{Inside, unasked, Index, Shut, Asks, Grown, Taken, Stuck, OfValue, OfRow}
+use Rattle.pairing.specs.code.Asking.{Inside, unasked, Index, Shut, Asks, Grown, Taken, Stuck, OfValue, OfRow}
 
 -- ---- the set of the rows asked, as the words of one row
 

@@ -17,13 +17,13 @@ use Rattle.sets.specs.Rows.{width, bits}
 use Rattle.sets.proofs.Bools.{and-left, and-right, and-both, true-or-false, not-both, is-false}
 use Rattle.sets.proofs.Values.{has-empty, has-and, has-same, minus-in, minus-out}
 use Rattle.theory.specs.Pairings.{size, at, In, Seated, Largest}
-use Rattle.theory.specs.Search.{Heard}
+use Rattle.theory.specs.code.Search.{Heard}
 use Rattle.theory.proofs.Places.{not-mate, past, seated?}
 use Rattle.theory.proofs.Sizes.{size-by-d}
 use Rattle.theory.proofs.FailedSearch.{failed-largest}
 use Rattle.pairing.specs.declared.seats.Seating.{Seating}
-use Rattle.pairing.specs.Asking.{Inside, Index, Shut, Asks, Searches, Grown, OfSearch}
-use Rattle.pairing.specs.Seats.{seats, Unreached, Below, Bench, Reseated}
+use Rattle.pairing.specs.code.Asking.{Inside, Index, Shut, Asks, Searches, Grown, OfSearch}
+use Rattle.pairing.specs.code.Seats.{seats, Unreached, Below, Bench, Reseated}
 use Rattle.pairing.proofs.AskSteps.{row-free}
 use Rattle.pairing.proofs.SeatColumns.{left-or-same}
 use Rattle.pairing.proofs.Snoc.{at-open, size-open, seated-open, open-seated, full-mate, row-last, holds-cases, holds-before}

@@ -11,8 +11,8 @@ use Rattle.sets.specs.Rows.{width}
 use Rattle.sets.proofs.Bools.{true-or-false, not-both}
 use Rattle.sets.proofs.Values.{has-empty, has-single, minus-in, minus-out}
 use Rattle.theory.specs.Pairings.{at}
-use Rattle.theory.specs.Search.{Heard}
-use Rattle.pairing.specs.Asking.{Inside, Searches, Asks, Grown, Taken, Stuck, OfValue, OfSearch}
+use Rattle.theory.specs.code.Search.{Heard}
+use Rattle.pairing.specs.code.Asking.{Inside, Searches, Asks, Grown, Taken, Stuck, OfValue, OfSearch}
 
 pub record Round (free : ℕ) (rows p p′ : List ℕ) (asked′ left : ℕ) : Type 0 where
   pub some : Inside left free

@@ -13,8 +13,8 @@ use Rattle.sets.proofs.Bools.{true-or-false, not-both, or-cases, or-left, or-ri
 use Rattle.sets.proofs.Values.{has-empty, has-or, has-single, with-old, with-new, with-cases, minus-in, minus-out}
 use Rattle.theory.specs.Pairings.{at}
 use Rattle.theory.proofs.Places.{stored, at-same}
-use Rattle.pairing.specs.Asking.{Index}
-use Rattle.pairing.specs.Seats.{Entered}
+use Rattle.pairing.specs.code.Asking.{Index}
+use Rattle.pairing.specs.code.Seats.{Entered}
 
 -- what is not one value is left of a set without it
 pub left-or-same : (a v u : ℕ) → has a u ≡ true → (u ≡ v) ⊎ (has (minus a (single v)) u ≡ true)

@@ -14,7 +14,7 @@ use Rattle.sets.proofs.Bools.{not-both}
 use Rattle.sets.proofs.Values.{has-empty, with-old, with-new, with-cases}
 use Rattle.theory.specs.Pairings.{at}
 use Rattle.theory.proofs.Places.{at-less}
-use Rattle.pairing.specs.Seats.{Unreached}
+use Rattle.pairing.specs.code.Seats.{Unreached}
 
 -- `dead` has the mates of the rows before `next` that were not asked
 pub record Reaching (asked : ℕ) (p : List ℕ) (dead next : ℕ) : Type 0 where

@@ -21,18 +21,18 @@ use Rattle.sets.proofs.RowValues.{lowest-row}
 use Rattle.theory.specs.Pairings.{at}
 use Rattle.theory.proofs.Places.{mate?}
 use Rattle.pairing.specs.declared.seats.Seating.{Seating}
-use Rattle.pairing.specs.Asking.{Inside, Index, Searches, Grown, OfSearch}
-use Rattle.pairing.specs.Seats.{seats, Mates, Unreached, Below, Bench, Sitting, Seeks, Reseated, OfSeat}
+use Rattle.pairing.specs.code.Asking.{Inside, Index, Searches, Grown, OfSearch}
+use Rattle.pairing.specs.code.Seats.{seats, Mates, Unreached, Below, Bench, Sitting, Seeks, Reseated, OfSeat}
 use Rattle.pairing.proofs.Benches.{seat-left, bench-more, bench-searches, bench-direct, search-part, search-all, failed-shut}
 use Rattle.pairing.proofs.Benches.{failed-row, bench-other}
 
 -- the row is passed over
-pub seat-passed : {row : ℕ} {s : Seats} {rows columns mates : List ℕ} → Sitting s rows columns mates
+pub seat-passed : {row : ℕ} {s : Seating} {rows columns mates : List ℕ} → Sitting s rows columns mates
     → Inside row (bits (s .dead)) ⊎ (bits (s .free) ≡ zero)
     → OfSeat row s rows s rows columns mates
 seat-passed S why = record { sits = S; column = refl; either = inl (record { used = refl; rows-kept = refl; why = why }) }
 
-module _ {s : Seats} {rows columns mates : List ℕ} (S : Sitting s rows columns mates) where
+module _ {s : Seating} {rows columns mates : List ℕ} (S : Sitting s rows columns mates) where
   -- the rows that sit, and their mates
   abbrev R : List ℕ
   R = take (s .used) rows
@@ -111,7 +111,7 @@ pub record Searched (row : ℕ) (s : Seating) (rows mates columns′ : List ℕ)
   pub answer : OfSearch v from (take (s .used + 1) (rowsWith row s rows)) (take (s .used + 1) (matesWith s mates)) p′ asked
   pub long : length p′ ≡ length (take (s .used + 1) (matesWith s mates))
 
-module _ {row : ℕ} {s : Seats} {rows columns mates : List ℕ} (K : Seeks row s rows columns mates) where
+module _ {row : ℕ} {s : Seating} {rows columns mates : List ℕ} (K : Seeks row s rows columns mates) where
   abbrev S : Sitting s rows columns mates
   S = K .sits
 

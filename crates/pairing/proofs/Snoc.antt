@@ -17,7 +17,7 @@ use Rattle.sets.proofs.Values.{has-empty, has-or, with-old, with-new, with-case
 use Rattle.theory.specs.Pairings.{size, at, Seated, Pairing}
 use Rattle.theory.proofs.Places.{past, at-less}
 use Rattle.theory.proofs.Sizes.{size-by-rows}
-use Rattle.pairing.specs.Asking.{Index, Shut}
+use Rattle.pairing.specs.code.Asking.{Index, Shut}
 
 -- ---- lists
 

@@ -1,3 +1,3 @@
--- `Asking`: what the contracts of the search speak of. `Seats`: what those of one row more speak of.
-pub mod Asking
-pub mod Seats
+-- Nothing to believe here: pairings, and the rank, are those of `theory`.
+-- `code`: words that only loops, their contracts and their proofs use.
+pub mod code

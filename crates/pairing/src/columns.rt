@@ -3,8 +3,8 @@ ghost use mathlib.Core.Path.{_≡_};
 ghost use Prim.Native.Nat.{_<_, _≤_};
 ghost use lib.ListN.{length};
 ghost use Rattle.sets.specs.Rows.{width, bits, rowsOf};
-ghost use Rattle.pairing.specs.Asking.{Index};
-ghost use Rattle.pairing.specs.Seats.{seats, Entered};
+ghost use Rattle.pairing.specs.code.Asking.{Index};
+ghost use Rattle.pairing.specs.code.Seats.{seats, Entered};
 use sets::Row;
 
 // A row of at most so many values is light. Any number would be right; were all rows light, 64 rows of 32 values would take three times as long.

@@ -7,7 +7,7 @@ ghost use lib.ListN.{length};
 ghost use Rattle.sets.specs.Sets.{has};
 ghost use Rattle.sets.specs.Rows.{bits, rowsOf};
 ghost use Rattle.theory.specs.Pairings.{at};
-ghost use Rattle.pairing.specs.Asking.{Asks, Searches, OfValue, OfRow, OfSearch};
+ghost use Rattle.pairing.specs.code.Asking.{Asks, Searches, OfValue, OfRow, OfSearch};
 use sets::Row;
 
 // The value v, which has no row, asks the rows that hold it and are not asked yet, the last first. True where it has got one.

@@ -9,8 +9,8 @@ ghost use Prim.Native.Nat.{_<_};
 ghost use Rattle.sets.specs.Sets.{has};
 ghost use Rattle.sets.specs.Rows.{width, bits, rowsOf};
 ghost use Rattle.theory.specs.Pairings.{at};
-ghost use Rattle.pairing.specs.Asking.{Inside};
-ghost use Rattle.pairing.specs.Seats.{seats, Mates, Unreached, Below, Sitting, Seeks, Reseated, OfSeat, Hopeless};
+ghost use Rattle.pairing.specs.code.Asking.{Inside};
+ghost use Rattle.pairing.specs.code.Seats.{seats, Mates, Unreached, Below, Sitting, Seeks, Reseated, OfSeat, Hopeless};
 use crate::columns;
 use crate::search::search;
 use sets::Row;
@@ -80,7 +80,13 @@ fn near(row: Row, free: Row, fresh: Row) -> usize
 }
 
 // The row holds a value that is free, and takes it.
-fn sit_near(row: Row, s: Seating, rows: &mut [u64], columns: &mut [u64], mates: &mut [usize]) -> Seating
+fn sit_near(
+    row: Row,
+    s: Seating,
+    rows: &mut [u64],
+    columns: &mut [u64],
+    mates: &mut [usize],
+) -> Seating
     requires { ⌜ Sitting s (rowsOf (now rows)) (rowsOf (now columns)) (now mates) × Below (s .d) (bits row) ⌝ }
     requires { ⌜ bitAnd (bits row) (bits (s .free)) ≢ 0 ⌝ }
     ensures { λ r. ⌜ OfSeat (bits row) s (rowsOf (now (rows .entry))) r (rowsOf (now (rows .exit))) (rowsOf (now (columns .exit)))

@@ -13,7 +13,7 @@ use Rattle.theory.specs.Pairings.{at}
 use Rattle.sheet.specs.declared.Sheet.{Sheet}
 use Rattle.sheet.specs.Upto.{allTo, sumTo}
 use Rattle.sheet.specs.Sheets.{held, owed, shaped, placed, shared, markedRight, sound}
-use Rattle.sheet.specs.Surveys.{sheetOf, placesOf, marksOf, Surveyed}
+use Rattle.sheet.specs.code.Surveys.{sheetOf, placesOf, marksOf, Surveyed}
 use Rattle.sheet.proofs.UptoLaws.{all-ext, sum-ext}
 
 -- ---- the parts that a test looks at

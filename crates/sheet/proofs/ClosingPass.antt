@@ -14,7 +14,7 @@ use Rattle.theory.specs.Pairings.{at}
 use Rattle.sheet.specs.Upto.{countTo, those}
 use Rattle.sheet.specs.Sheets.{owns}
 use Rattle.sheet.specs.Changes.{stays}
-use Rattle.sheet.specs.Removals.{ClosedUp}
+use Rattle.sheet.specs.code.Removals.{ClosedUp}
 use Rattle.sheet.proofs.UptoLaws.{count-le, those-yes, those-no}
 use Rattle.sheet.proofs.PlaceRows.{place-rows, put-before}
 

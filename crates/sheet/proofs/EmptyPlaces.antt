@@ -11,7 +11,7 @@ use Rattle.sets.specs.Rows.{rowWords, rowsOf, inWords, putRow}
 use Rattle.sets.proofs.LentRows.{put-length, put-front, words-append, words-zeros}
 use Rattle.sheet.specs.Upto.{those}
 use Rattle.sheet.specs.Changes.{padded, stays}
-use Rattle.sheet.specs.Removals.{ClosedUp, TakenOut}
+use Rattle.sheet.specs.code.Removals.{ClosedUp, TakenOut}
 use Rattle.sheet.proofs.UptoLaws.{count-le, length-those}
 use Rattle.sheet.proofs.PlaceRows.{place-rows}
 

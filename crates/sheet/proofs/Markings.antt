@@ -17,7 +17,7 @@ use Rattle.sets.proofs.ValuesBelow.{has-all, all-has, has-less, some-value}
 use Rattle.theory.specs.Pairings.{at}
 use Rattle.sheet.specs.Upto.{allTo}
 use Rattle.sheet.specs.Sheets.{hides, markedRight, markWords, allMarks}
-use Rattle.sheet.specs.Surveys.{marksOf, MayHide}
+use Rattle.sheet.specs.code.Surveys.{marksOf, MayHide}
 use Rattle.sheet.proofs.UptoLaws.{all-fails, all-intro, top-or-below}
 
 -- ---- the rows that a word may have

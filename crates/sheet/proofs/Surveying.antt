@@ -19,7 +19,7 @@ use Rattle.theory.proofs.Places.{at-same, at-other}
 use Rattle.sheet.specs.declared.Sheet.{Sheet}
 use Rattle.sheet.specs.Upto.{countTo, allTo}
 use Rattle.sheet.specs.Sheets.{owns, owned, empty, placed}
-use Rattle.sheet.specs.Surveys.{Surveyed}
+use Rattle.sheet.specs.code.Surveys.{Surveyed}
 use Rattle.sheet.proofs.UptoLaws.{all-fails, all-intro, top-or-below, count-yes, count-no, count-le}
 
 -- ---- the places that are not used

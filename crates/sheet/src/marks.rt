@@ -5,7 +5,7 @@ ghost use lib.ListN.{length};
 ghost use Rattle.sets.specs.Limits.{mostRows, mostDesks};
 ghost use Rattle.sheet.specs.Sheets.{markWords, allMarks, hides, markedRight};
 ghost use Rattle.sheet.specs.Changes.{hide, wiped};
-ghost use Rattle.sheet.specs.Surveys.{MayHide, marksOf};
+ghost use Rattle.sheet.specs.code.Surveys.{MayHide, marksOf};
 use crate::Sheet;
 
 // The desk hides table row n.

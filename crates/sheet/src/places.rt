@@ -7,7 +7,7 @@ ghost use lib.ListN.{replicate};
 ghost use Rattle.sets.specs.Limits.{mostPlaces, mostDesks};
 ghost use Rattle.sheet.specs.Upto.{allTo};
 ghost use Rattle.sheet.specs.Sheets.{empty, placed};
-ghost use Rattle.sheet.specs.Surveys.{placesOf, Surveyed};
+ghost use Rattle.sheet.specs.code.Surveys.{placesOf, Surveyed};
 use crate::Sheet;
 
 // The places from `used` on have set 0 and owner 0.

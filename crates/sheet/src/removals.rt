@@ -8,7 +8,7 @@ ghost use lib.ListN.{length, take, replicate};
 ghost use Rattle.sets.specs.Limits.{mostPlaces};
 ghost use Rattle.sets.specs.Rows.{rowWords};
 ghost use Rattle.sheet.specs.Changes.{padded};
-ghost use Rattle.sheet.specs.Removals.{ClosedUp, TakenOut};
+ghost use Rattle.sheet.specs.code.Removals.{ClosedUp, TakenOut};
 use crate::Sheet;
 
 // Whether a row goes: it is one of the desk's, and of the desk's rows it is one of those from number `from` to `upto` - 1.

@@ -5,7 +5,7 @@ ghost use Prim.Native.Nat.{zero};
 ghost use lib.ListN.{replicate};
 ghost use Rattle.sets.specs.Limits.{mostDesks};
 ghost use Rattle.sheet.specs.Sheets.{shaped, sound};
-ghost use Rattle.sheet.specs.Surveys.{sheetOf, Surveyed};
+ghost use Rattle.sheet.specs.code.Surveys.{sheetOf, Surveyed};
 use crate::Sheet;
 use crate::marks;
 use crate::places;

@@ -16,7 +16,7 @@ use Rattle.theory.specs.Pairings.{at}
 use Rattle.sheet.specs.Upto.{countTo, those}
 use Rattle.sheet.proofs.UptoLaws.{count-yes, count-no, count-more, length-those, those-yes, those-no}
 use Rattle.store.specs.Desks.{view}
-use Rattle.store.specs.Views.{Filled, Viewed}
+use Rattle.store.specs.code.Views.{Filled, Viewed}
 
 -- ---- a list of rows
 

@@ -12,8 +12,8 @@ use Rattle.sets.proofs.Bools.{and-left, and-right}
 use Rattle.sheet.specs.declared.Sheet.{Sheet}
 use Rattle.sheet.specs.Sheets.{own, held, hides, sound}
 use Rattle.sheet.specs.Changes.{freshSheet, marking, without}
-use Rattle.sheet.specs.Removals.{TakenOut}
-use Rattle.sheet.specs.Surveys.{sheetOf, Surveyed}
+use Rattle.sheet.specs.code.Removals.{TakenOut}
+use Rattle.sheet.specs.code.Surveys.{sheetOf, Surveyed}
 use Rattle.sheet.proofs.UptoLaws.{sum-part}
 use Rattle.sheet.proofs.OwnAfter.{length-own}
 use Rattle.store.specs.declared.Target.the-variants.{Table, Own}
@@ -32,7 +32,7 @@ use Rattle.store.specs.Desks.{serve, written, listAfter}
 use Rattle.sets.specs.Limits.{mostRows, mostDesks, mostPlaces, promised}
 use Rattle.refusals.specs.TableCases.{tableCases}
 use Rattle.store.specs.Calls.{deskCases, sheetCases, crowded, begunAnswer, begunSheet, begun, answered, changed, sheetAfter, replied, told}
-use Rattle.store.specs.Serving.{Trusted, Served, Possible, Responded, CarriedOut}
+use Rattle.store.specs.code.Serving.{Trusted, Served, Possible, Responded, CarriedOut}
 use Rattle.store.proofs.Judging.{passed, Allowed, allowed, has-room}
 use Rattle.store.proofs.Trusting.{Limits, limits}
 

@@ -25,9 +25,9 @@ use Rattle.store.specs.declared.Answer.{Answer}
 use Rattle.store.specs.declared.Answer.the-variants.{Done, Refused}
 use Rattle.store.specs.Answers.{accepted}
 use Rattle.store.specs.Desks.{rowCases, insertCases, view, serve, written, listAfter}
-use Rattle.store.specs.Views.{Viewed}
+use Rattle.store.specs.code.Views.{Viewed}
 use Rattle.store.specs.Calls.{crowded}
-use Rattle.store.specs.Serving.{Trusted, ChangeJudged, Replied, Served}
+use Rattle.store.specs.code.Serving.{Trusted, ChangeJudged, Replied, Served}
 use Rattle.store.proofs.Trusting.{limits}
 
 -- where nothing is written the list stays

@@ -8,7 +8,7 @@ use Rattle.sets.specs.Rows.{rowsOf}
 use Rattle.sets.specs.Limits.{mostDesks, mostHeld, mostPlaces, mostRows, mostValues, promised}
 use Rattle.theory.specs.Pairings.{at}
 use Rattle.sets.proofs.BadRows.{bad-row-none}
-use Rattle.distinct.specs.Steps.{InColumn}
+use Rattle.distinct.specs.code.Steps.{InColumn}
 use Rattle.sheet.specs.declared.Sheet.{Sheet}
 use Rattle.sheet.specs.Upto.{sumTo}
 use Rattle.sheet.specs.Sheets.{own, owns, held, hides, owed}
@@ -19,7 +19,7 @@ use Rattle.store.specs.declared.Answer.the-variants.{Done}
 use Rattle.store.specs.Desks.{view}
 use Rattle.refusals.specs.TableCases.{tableCases}
 use Rattle.refusals.proofs.TablesJudged.{TableRight, right-parts}
-use Rattle.store.specs.Serving.{Trusted}
+use Rattle.store.specs.code.Serving.{Trusted}
 use Rattle.store.proofs.Judging.{none-apply}
 use Rattle.store.proofs.ViewRows.{within-those, within-view}
 

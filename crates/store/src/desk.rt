@@ -6,14 +6,14 @@ ghost use Rattle.sets.specs.Limits.{mostValues, mostRows, mostDesks, mostInView
 ghost use Rattle.sets.specs.Rows.{bits, asRow, rowsOf};
 ghost use Rattle.theory.specs.Pairings.{at};
 ghost use Rattle.theory.specs.Kept.{kept};
-ghost use Rattle.distinct.specs.Steps.{InColumn};
+ghost use Rattle.distinct.specs.code.Steps.{InColumn};
 ghost use Rattle.sheet.specs.Sheets.{hides};
-ghost use Rattle.sheet.specs.Surveys.{sheetOf};
+ghost use Rattle.sheet.specs.code.Surveys.{sheetOf};
 ghost use Rattle.store.specs.declared.Answer.the-variants.{Done, Seen, Listed, Refused};
 ghost use Rattle.refusals.specs.Cases.{decided};
 ghost use Rattle.store.specs.Calls.{deskCases};
 ghost use Rattle.store.specs.Desks.{rowCases, hideCases, insertCases, listCases, listAfter};
-ghost use Rattle.store.specs.Serving.{Trusted, ChangeJudged, Replied, Served};
+ghost use Rattle.store.specs.code.Serving.{Trusted, ChangeJudged, Replied, Served};
 use crate::Answer;
 use crate::Call;
 use crate::Change;

@@ -1,9 +1,9 @@
 // A desk's call on the parts of a sheet, altered where they lie.
 ghost use mathlib.Core.Path.{_≡_};
 ghost use Rattle.sets.specs.Rows.{rowsOf};
-ghost use Rattle.sheet.specs.Surveys.{sheetOf};
+ghost use Rattle.sheet.specs.code.Surveys.{sheetOf};
 ghost use Rattle.store.specs.declared.Call.the-variants.{Do};
-ghost use Rattle.store.specs.Serving.{Possible, Responded, Changed, CarriedOut};
+ghost use Rattle.store.specs.code.Serving.{Possible, Responded, Changed, CarriedOut};
 use crate::Answer;
 use crate::Call;
 use crate::Change;

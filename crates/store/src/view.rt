@@ -7,7 +7,7 @@ ghost use Rattle.sets.specs.Limits.{mostRows, mostDesks, mostPlaces, mostHeld, 
 ghost use Rattle.sets.specs.Rows.{rowsOf};
 ghost use Rattle.sheet.specs.Upto.{countTo, those};
 ghost use Rattle.sheet.specs.Sheets.{owns, hides};
-ghost use Rattle.store.specs.Views.{Filled, Viewed};
+ghost use Rattle.store.specs.code.Views.{Filled, Viewed};
 use sheet::Sheet;
 
 // The table rows that the desk does not hide go to the front of the rows. Answers how many.

@@ -9,7 +9,7 @@ use native.Mathlib.Omega.{arith}
 use lib.ListN.{length}
 use Rattle.sets.proofs.Bools.{true-or-false, not-both}
 use Rattle.theory.specs.Pairings.{size, at, In, Seated, Pairing, Largest}
-use Rattle.theory.specs.Search.{Closed, Tried}
+use Rattle.theory.specs.code.Search.{Closed, Tried}
 use Rattle.theory.proofs.Places.{past, seated?}
 use Rattle.theory.proofs.Sizes.{size-by-places, size-by-values}
 

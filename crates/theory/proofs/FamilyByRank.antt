@@ -11,7 +11,7 @@ use Rattle.sets.proofs.Subsets.{subset-has}
 use Rattle.theory.specs.Family.{family, SameFamily}
 use Rattle.theory.specs.Pairings.{rank, at, Pairing, Largest, Admits}
 use Rattle.theory.specs.Kept.{marked, pick}
-use Rattle.theory.specs.Search.{mask}
+use Rattle.theory.specs.code.Search.{mask}
 use Rattle.theory.proofs.Places.{mate?, not-mate, mem-some}
 use Rattle.theory.proofs.Enumerations.{OfRank, rank-bound, rank-met}
 use Rattle.theory.proofs.SwapValues.{ValuesSwapped, swap-values}

@@ -7,7 +7,7 @@ use native.Mathlib.Nat.{le-of-suc-le-suc, not-suc-le-zero, suc-inj, suc-ne-zero}
 use native.Mathlib.Omega.{arith}
 use lib.ListN.{length}
 use Rattle.theory.specs.Pairings.{size, rank, at, In, Seated, Pairing}
-use Rattle.theory.specs.Search.{Different}
+use Rattle.theory.specs.code.Search.{Different}
 use Rattle.theory.proofs.Places.{mem-place}
 use Rattle.theory.proofs.PairingSteps.{pairing-nil, pairing-none, pairing-mate}
 use Rattle.theory.proofs.Sizes.{size-by-rows, size-by-d}

@@ -14,7 +14,7 @@ use borrow.Author.Tests.{ne-eqb, eq-eqb, ltb-true, ltb-false}
 use Rattle.sets.proofs.Bools.{not-both}
 use Rattle.theory.specs.Pairings.{size, rank, at, Pairing}
 use Rattle.theory.specs.Kept.{marked, pick, try, tries}
-use Rattle.theory.specs.Search.{mask}
+use Rattle.theory.specs.code.Search.{mask}
 use Rattle.theory.proofs.Places.{Mate, mate?, not-mate, at-less, stored, size-more}
 use Rattle.theory.proofs.Sizes.{size-by-places}
 use Rattle.theory.proofs.Enumerations.{OfRank, rank-bound, rank-met}

@@ -14,7 +14,7 @@ use Rattle.sets.proofs.Bools.{not-both}
 use Rattle.sets.proofs.Values.{has-empty}
 use Rattle.theory.specs.Pairings.{size, rank, at, In, Seated, Pairing}
 use Rattle.theory.specs.Kept.{marked, pick}
-use Rattle.theory.specs.Search.{mask}
+use Rattle.theory.specs.code.Search.{mask}
 use Rattle.theory.proofs.Places.{not-mate}
 use Rattle.theory.proofs.PairingSteps.{pairing-tail, pairing-head, pairing-none, pairing-mate, pairing-move}
 use Rattle.theory.proofs.Enumerations.{rank-bound, rank-met}

@@ -14,7 +14,7 @@ use Rattle.sets.proofs.Bools.{or-left, or-right, and-left, and-right, and-both,
 use Rattle.sets.proofs.Subsets.{proper-subset, proper-less, subset-refl, subset-trans}
 use Rattle.theory.specs.Pairings.{among, at}
 use Rattle.theory.specs.Kept.{marked, pick, minimal, firstsAfter, firsts, minimals}
-use Rattle.theory.specs.Search.{Different}
+use Rattle.theory.specs.code.Search.{Different}
 use Rattle.theory.proofs.Places.{descend}
 
 -- ---- minimal rows

@@ -12,7 +12,7 @@ use lib.Seq.{set-getD}
 use borrow.Author.Tests.{le-ltb}
 use Rattle.theory.specs.Pairings.{rank, at, Pairing}
 use Rattle.theory.specs.Kept.{marked, pick, try, tries}
-use Rattle.theory.specs.Search.{mask}
+use Rattle.theory.specs.code.Search.{mask}
 use Rattle.theory.proofs.Places.{Mate, mate?, not-mate, at-less, at-same, size-less}
 use Rattle.theory.proofs.PairingSteps.{pairing-drop}
 use Rattle.theory.proofs.Enumerations.{OfRank, rank-bound, rank-met}

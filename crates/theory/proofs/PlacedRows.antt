@@ -13,7 +13,7 @@ use borrow.Author.Tests.{lt-ltb, le-ltb}
 use Rattle.sets.proofs.Bools.{not-both}
 use Rattle.theory.specs.Pairings.{size, rank, at, In, Seated, Pairing}
 use Rattle.theory.specs.Kept.{marked, pick, try, rowsAt}
-use Rattle.theory.specs.Search.{mask, Different, Stands}
+use Rattle.theory.specs.code.Search.{mask, Different, Stands}
 use Rattle.theory.proofs.Places.{mate?, not-mate, at-less, mem-place, stored, size-more}
 use Rattle.theory.proofs.PairingSteps.{pairing-put, pairing-tail, pairing-head}
 use Rattle.theory.proofs.Sizes.{size-by-values}

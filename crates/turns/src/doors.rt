@@ -1,5 +1,5 @@
 // The doors of the store, each by plain numbers.
-use crate::script::Told;
+use crate::script::Plain;
 use crate::script::Turn;
 use sheet::Sheet;
 use store::Answer;
@@ -11,7 +11,7 @@ use store::Target;
 
 // What a door hands back.
 pub struct Handed {
-    pub told: Told,
+    pub told: Plain,
     pub sheet: Sheet,
 }
 
@@ -48,8 +48,8 @@ fn call(kind: u64, number: u64) -> Call {
     }
 }
 
-fn numbers(refusal: u64, first: u64, second: u64) -> Told {
-    Told {
+fn numbers(refusal: u64, first: u64, second: u64) -> Plain {
+    Plain {
         refusal,
         first,
         second,
@@ -58,7 +58,7 @@ fn numbers(refusal: u64, first: u64, second: u64) -> Told {
 }
 
 // An answer by its numbers, in the order in which the request names them.
-fn spelt(answer: Answer) -> Told {
+fn spelt(answer: Answer) -> Plain {
     match answer {
         Answer::Done => numbers(0, 0, 0),
         Answer::Seen(row) => numbers(0, sets::as_word(row), 0),

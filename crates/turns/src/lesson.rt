@@ -5,9 +5,9 @@ use crate::doors;
 use crate::neighbour;
 use crate::script;
 use crate::script::NO_QUESTIONS;
+use crate::script::Plain;
 use crate::script::QUESTION;
 use crate::script::QUESTIONS;
-use crate::script::Told;
 use crate::script::Turn;
 use crate::trial::once;
 use crate::words;
@@ -47,7 +47,7 @@ fn at_time(turn: Turn, i: usize) -> Turn {
 }
 
 // What came instead of what must.
-fn complain(kind: u64, told: Told) {
+fn complain(kind: u64, told: Plain) {
     text(b" - DIFFERS: told ");
     words::tell(kind, told);
     text(b", or the list or the sheet is not as it must be");

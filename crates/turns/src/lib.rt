@@ -11,7 +11,7 @@ mod words; // words.rt: what is told, in words
 
 pub use lesson::Score;
 pub use lesson::play;
-pub use script::Told;
+pub use script::Plain;
 pub use script::Turn;
 pub use script::read_turn;
 pub use trial::Outcome;

@@ -20,7 +20,7 @@ pub const QUESTION: u8 = b'>';
 pub const NO_QUESTIONS: u8 = b'!';
 
 // What a desk is told: the refusal number or 0, the values of the answer, and the positions listed.
-pub struct Told {
+pub struct Plain {
     pub refusal: u64,
     pub first: u64,
     pub second: u64,
@@ -31,7 +31,7 @@ pub struct Turn {
     pub kind: u64,
     pub desk: usize,
     pub number: u64,
-    pub must: Told,
+    pub must: Plain,
     pub times: usize,
     pub each: usize,
     pub places: usize,
@@ -70,7 +70,7 @@ pub fn after(script: &[u8], at: usize) -> usize
 pub fn read_turn(text: &[u8]) -> Turn {
     let mut row = [0, 0, 0, 0, 0, 0, 0, 0, 1, 0, 320, 0, 0];
     texts::numbers(text, &mut row);
-    let must = Told {
+    let must = Plain {
         refusal: row[4],
         first: row[5],
         second: row[6],

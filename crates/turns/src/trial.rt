@@ -6,19 +6,19 @@ use crate::doors::Handed;
 use crate::lists;
 use crate::lists::LENT;
 use crate::lists::PLENTY;
-use crate::script::Told;
+use crate::script::Plain;
 use crate::script::Turn;
 use crate::sheets;
 use sheet::Sheet;
 
 // What came of a turn, whether that is right, and the sheet handed back.
 pub struct Outcome {
-    pub told: Told,
+    pub told: Plain,
     pub right: bool,
     pub sheet: Sheet,
 }
 
-fn same(a: Told, b: Told) -> bool {
+fn same(a: Plain, b: Plain) -> bool {
     a.refusal == b.refusal && a.first == b.first && a.second == b.second && a.kept == b.kept
 }
 
@@ -30,7 +30,7 @@ fn lent(places: usize) -> usize
 }
 
 // How many places of the list are written.
-fn written(kind: u64, told: Told) -> u64 {
+fn written(kind: u64, told: Plain) -> u64 {
     if told.refusal == 0 && kind == doors::DISTINCT {
         told.first
     } else {
@@ -39,7 +39,7 @@ fn written(kind: u64, told: Told) -> u64 {
 }
 
 // A refusal, and every call that only asks, hands back the sheet that it was handed.
-fn may_change(kind: u64, told: Told) -> bool {
+fn may_change(kind: u64, told: Plain) -> bool {
     told.refusal == 0 && (kind < doors::LOOK || kind == doors::BEGIN)
 }
 

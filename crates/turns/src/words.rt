@@ -2,14 +2,14 @@
 use crate::doors::COUNT;
 use crate::doors::DISTINCT;
 use crate::doors::LOOK;
-use crate::script::Told;
+use crate::script::Plain;
 use show::Names;
 use show::say;
 use show::text;
 use show::texts;
 
 // A refusal by its number, refusal 2 with its row, and why, as one would tell it to a pupil.
-fn tell_refusal(told: Told) {
+fn tell_refusal(told: Plain) {
     texts::say_line(
         b"done
 refused with # (no table has that size)
@@ -32,7 +32,7 @@ refused with #",
 }
 
 // How many rows DISTINCT keeps, and where.
-fn tell_kept(told: Told) {
+fn tell_kept(told: Plain) {
     say(b"# kept", &[told.first]);
     if told.kept != 0 {
         text(b", at");
@@ -41,7 +41,7 @@ fn tell_kept(told: Told) {
 }
 
 // What a call of this kind is told.
-pub fn tell(kind: u64, told: Told) {
+pub fn tell(kind: u64, told: Plain) {
     if told.refusal != 0 {
         tell_refusal(told);
         return;

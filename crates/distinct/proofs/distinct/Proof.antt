@@ -8,8 +8,8 @@ use lib.Seq.{length-take-le}
 use Rattle.sets.specs.Limits.{mostInView}
 use Rattle.sets.specs.Rows.{rowWords, rowsOf}
 use Rattle.sets.proofs.LentRows.{rows-zero-length}
-use Rattle.pairing.specs.Seats.{seats}
-use Rattle.distinct.specs.Steps.{Places}
+use Rattle.pairing.specs.code.Seats.{seats}
+use Rattle.distinct.specs.code.Steps.{Places}
 use Rattle.distinct.proofs.Asking.{no-marks}
 use borrow.Author.Needs.{needs}
 use Rattle.distinct.proofs.distinct.Statement.{statement}

@@ -6,7 +6,7 @@ use borrow.Author.Needs.{needs}
 use lib.ListN.{length}
 use Rattle.sets.specs.Rows.{rowsOf}
 use Rattle.theory.specs.Pairings.{at}
-use Rattle.pairing.specs.Seats.{OfSeat}
+use Rattle.pairing.specs.code.Seats.{OfSeat}
 use Rattle.distinct.proofs.Offers.{marks-same, marks-other, Offering, offering-start, offering-long, offering-end}
 use Rattle.distinct.proofs.Offers.{offering-other, offering-seated, offering-passed}
 use Rattle.distinct.proofs.steps.offer_seats.Statement.{statement}

@@ -7,7 +7,7 @@ use borrow.Author.Tests.{not-true, not-false}
 use lib.ListN.{length}
 use Rattle.sets.specs.Rows.{width, rowsOf}
 use Rattle.theory.specs.Kept.{tries}
-use Rattle.distinct.specs.Steps.{Pairs, offered}
+use Rattle.distinct.specs.code.Steps.{Pairs, offered}
 use Rattle.distinct.proofs.Start.{pairs-start}
 use Rattle.distinct.proofs.Offers.{turn-over, turns-done}
 use Rattle.distinct.proofs.steps.second_step.Statement.{statement}

@@ -9,7 +9,7 @@ use Rattle.sets.specs.Rows.{rowWords, width, rowsOf}
 use Rattle.sets.proofs.LentRows.{rows-as-long, rows-end, rows-front, rows-zero}
 use Rattle.theory.specs.Kept.{tries, marks}
 use Rattle.theory.proofs.KeptAnyD.{marks-any}
-use Rattle.pairing.specs.Seats.{seats}
+use Rattle.pairing.specs.code.Seats.{seats}
 use Rattle.distinct.proofs.Start.{column-rows, none-empty}
 use borrow.Author.Needs.{needs}
 use Rattle.distinct.proofs.steps.settle.Statement.{statement}

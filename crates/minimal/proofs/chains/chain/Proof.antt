@@ -12,7 +12,7 @@ use Rattle.sets.specs.Rows.{width, bits, rowsOf}
 use Rattle.sets.specs.Sets.{single}
 use Rattle.sets.proofs.RowValues.{count-row}
 use Rattle.theory.specs.Pairings.{at}
-use Rattle.minimal.specs.Marking.{Chains, Sizes, Candidate}
+use Rattle.minimal.specs.code.Marking.{Chains, Sizes, Candidate}
 use Rattle.minimal.proofs.Apart.{meets-no, meets-yes, apart-clear, common-not-clear}
 use Rattle.minimal.proofs.Counts.{some-ones}
 use Rattle.minimal.proofs.Links.{chains-start, sizes-start, chains-skip, sizes-skip, chains-more, sizes-more}

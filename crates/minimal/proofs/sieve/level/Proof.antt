@@ -11,7 +11,7 @@ use Rattle.sets.specs.Rows.{bits, rowsOf, tagOf}
 use Rattle.sets.proofs.RowValues.{tag-less}
 use Rattle.sets.proofs.LentRows.{rows-stored}
 use Rattle.theory.specs.Pairings.{at}
-use Rattle.minimal.specs.Marking.{Scanned, tagWords, withTag, ToTest}
+use Rattle.minimal.specs.code.Marking.{Scanned, tagWords, withTag, ToTest}
 use Rattle.sets.proofs.LentRows.{rows-as-long}
 use Rattle.minimal.proofs.RowTags.{Tagged, tagged-start, tagged-more, tested}
 use Rattle.minimal.proofs.Sifting.{Walk, walk-start, walk-on, walk-room, walk-miss, walk-hit, sieve-next}

@@ -5,8 +5,8 @@ use mathlib.Core.Path.{_≡_, refl, sym, subst, _∙_}
 use native.Mathlib.Omega.{arith}
 use lib.ListN.{length}
 use Rattle.sets.specs.Rows.{bits, rowsOf}
-use Rattle.pairing.specs.Asking.{Index}
-use Rattle.pairing.specs.Seats.{Entered}
+use Rattle.pairing.specs.code.Asking.{Index}
+use Rattle.pairing.specs.code.Seats.{Entered}
 use Rattle.pairing.proofs.SeatColumns.{index-entered}
 use Rattle.pairing.proofs.columns.enter_light.Statement.{statement}
 use Rattle.pairing.proofs.columns.enter_light.Tie as tie

@@ -12,7 +12,7 @@ use Rattle.sets.specs.Rows.{width, bits, rowsOf}
 use Rattle.sets.proofs.Values.{with-new}
 use Rattle.sets.proofs.RowValues.{top-row, top-row-none}
 use Rattle.theory.specs.Pairings.{at}
-use Rattle.pairing.specs.Asking.{unasked, Asks, OfRow}
+use Rattle.pairing.specs.code.Asking.{unasked, Asks, OfRow}
 use Rattle.pairing.proofs.AskSteps.{Progress, asked-there, asked-stored, row-takes, row-asks, row-moved, row-stays, turn-start}
 use Rattle.pairing.proofs.AskSteps.{turn-end, turn-row, turn-less, turn-falls, turn-pass, turn-found, turn-again}
 use borrow.Fn.Kinds.{In}

@@ -8,8 +8,8 @@ use lib.Seq.{length-take-le}
 use Rattle.sets.specs.Rows.{rowWords, bits, rowsOf}
 use Rattle.sets.proofs.LentRows.{rows-end, rows-stored, rows-take, rows-zero}
 use Rattle.theory.specs.Pairings.{at}
-use Rattle.pairing.specs.Asking.{Index}
-use Rattle.pairing.specs.Seats.{seats}
+use Rattle.pairing.specs.code.Asking.{Index}
+use Rattle.pairing.specs.code.Seats.{seats}
 use Rattle.pairing.proofs.SeatSteps.{rowsWith, Searched, rows-long, mates-next, seek-index, seek-searches}
 use Rattle.pairing.proofs.SeatSteps.{seek-long, seek-found, seek-mates, seek-lost}
 use borrow.Author.Needs.{needs}

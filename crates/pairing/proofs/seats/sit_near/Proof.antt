@@ -4,7 +4,7 @@ use native.Mathlib.Omega.{arith}
 use lib.ListN.{take}
 use Rattle.sets.specs.Rows.{bits, rowsOf}
 use Rattle.sets.proofs.LentRows.{rows-stored}
-use Rattle.pairing.specs.Seats.{seats}
+use Rattle.pairing.specs.code.Seats.{seats}
 use Rattle.pairing.proofs.SeatSteps.{seat-room, seat-direct, near-free}
 use Rattle.pairing.proofs.Benches.{fresh-free}
 use borrow.Author.Needs.{needs}

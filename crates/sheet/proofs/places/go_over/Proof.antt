@@ -10,7 +10,7 @@ use Rattle.sets.specs.Limits.{mostDesks}
 use Rattle.sets.specs.Sets.{within}
 use Rattle.sets.specs.Rows.{rowsOf}
 use Rattle.sheet.specs.declared.Sheet.{Sheet}
-use Rattle.sheet.specs.Surveys.{placesOf}
+use Rattle.sheet.specs.code.Surveys.{placesOf}
 use Rattle.sheet.proofs.PlaceRows.{place-rows}
 use Rattle.sheet.proofs.Surveying.{Tallied, tally-start, tally-kept, tally-wrong, tally-owner, tally-row, tally-small, tally-more, tally-all}
 use Rattle.sheet.proofs.places.go_over.Statement.{statement}

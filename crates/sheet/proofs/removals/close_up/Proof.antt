@@ -7,7 +7,7 @@ use borrow.Author.Needs.{needs}
 use lib.ListN.{length}
 use Rattle.sets.specs.Limits.{mostPlaces}
 use Rattle.sets.specs.Rows.{rowsOf}
-use Rattle.sheet.specs.Removals.{ClosedUp}
+use Rattle.sheet.specs.code.Removals.{ClosedUp}
 use Rattle.sheet.proofs.ClosingPass.{Passing, passing-start, passing-few, passing-room, passing-more, passing-done}
 use Rattle.sheet.proofs.removals.close_up.Statement.{statement}
 use Rattle.sheet.proofs.removals.close_up.Tie as tie

@@ -8,7 +8,7 @@ use borrow.Author.Needs.{needs}
 use Rattle.sets.specs.Limits.{mostDesks, mostPlaces}
 use Rattle.sheet.specs.declared.Sheet.{Sheet}
 use Rattle.sheet.specs.Sheets.{shaped}
-use Rattle.sheet.specs.Surveys.{sheetOf}
+use Rattle.sheet.specs.code.Surveys.{sheetOf}
 use Rattle.sheet.proofs.Checking.{shape-same, places-same, marks-same, shape-few}
 use Rattle.sheet.proofs.Checking.{check-shape, check-places, check-over, check-owed, check-marks}
 use Rattle.sheet.proofs.sound.check.Statement.{statement}

@@ -8,7 +8,7 @@ use lib.Seq.{length-take-le}
 use borrow.Author.Needs.{needs}
 use Rattle.sets.specs.Limits.{mostInView}
 use Rattle.sets.proofs.LentRows.{rows-end, rows-zero-length}
-use Rattle.distinct.specs.Steps.{InColumn}
+use Rattle.distinct.specs.code.Steps.{InColumn}
 use Rattle.store.proofs.Trusting.{limits, in-column}
 use Rattle.store.proofs.Serving.{view-fits, view-words, served-change, served-question}
 use Rattle.store.proofs.desk.serve.Statement.{statement}

@@ -5,7 +5,7 @@ use borrow.Author.Tests.{not-true, not-false}
 use borrow.Author.Needs.{needs}
 use Rattle.sets.specs.Rows.{rowsOf}
 use Rattle.sheet.specs.declared.Sheet.{Sheet}
-use Rattle.sheet.specs.Surveys.{sheetOf}
+use Rattle.sheet.specs.code.Surveys.{sheetOf}
 use Rattle.store.specs.Answers.{accepted}
 use Rattle.store.proofs.Replying.{carried-refused, carried-accepted, carried-question, room-in-parts}
 use Rattle.store.proofs.parts.carry_out.Statement.{statement}

@@ -7,7 +7,7 @@ use native.Mathlib.Omega.{arith}
 use borrow.Author.Needs.{needs}
 use lib.ListN.{set}
 use Rattle.sets.specs.Limits.{mostDesks, mostPlaces, mostHeld}
-use Rattle.sheet.specs.Surveys.{sheetOf}
+use Rattle.sheet.specs.code.Surveys.{sheetOf}
 use Rattle.sheet.proofs.PlaceRows.{place-rows}
 use Rattle.store.specs.declared.Change.the-variants.{Delete}
 use Rattle.store.specs.declared.Target.the-variants.{Table, Own}

@@ -6,7 +6,7 @@ use borrow.Author.Tests.{not-true, not-false}
 use borrow.Author.Needs.{needs}
 use Rattle.sets.specs.Rows.{rowsOf}
 use Rattle.sheet.specs.declared.Sheet.{Sheet}
-use Rattle.sheet.specs.Surveys.{sheetOf}
+use Rattle.sheet.specs.code.Surveys.{sheetOf}
 use Rattle.store.specs.declared.Answer.the-variants.{Done, Refused}
 use Rattle.refusals.specs.Cases.{decided}
 use Rattle.store.specs.Answers.{accepted}

@@ -10,7 +10,7 @@ use Rattle.sets.specs.Sets.{has, single, minus}
 use Rattle.sets.specs.Rows.{width, bits}
 use Rattle.theory.specs.Pairings.{size, at, Seated, Pairing}
 use Rattle.pairing.specs.declared.seats.Seating.{Seating}
-use Rattle.pairing.specs.Asking.{Inside, Index, Shut}
+use Rattle.pairing.specs.code.Asking.{Inside, Index, Shut}
 
 -- how many seats there are: as many as a column can have values, for a row that sits has a value of its own
 abbrev pub seats : ℕ

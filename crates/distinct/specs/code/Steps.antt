@@ -4,19 +4,25 @@ use mathlib.Core.Path.{_≡_}
 use mathlib.Core.Bool.{Bool, true, false}
 use mathlib.Core.List.{List, [], _∷_}
 use lib.ListN.{length, take}
-use Rattle.sets.specs.Limits.{mostValues}
+use Rattle.sets.specs.Limits.{mostValues, mostInView}
 use Rattle.sets.specs.Rows.{width}
 use Rattle.sets.specs.Sets.{within}
 use Rattle.theory.specs.Kept.{rowsAt, tries}
 use Rattle.theory.specs.Pairings.{at}
-use Rattle.theory.specs.Search.{Stands}
+use Rattle.theory.specs.code.Search.{Stands}
 use Rattle.pairing.specs.declared.seats.Seating.{Seating}
-use Rattle.pairing.specs.Seats.{Below, Sitting, seats}
+use Rattle.pairing.specs.code.Seats.{Below, Sitting, seats}
 
 -- the rows are those of a column with d values
 pub record InColumn (d : ℕ) (rows : List ℕ) : Type 0 where
   pub column : d ≤ mostValues
   pub rows-within : (i : ℕ) → i < length rows → within d (at rows i) ≡ true
+
+-- the rows of a column with d values, no more than a view may have, and a place for each in the list
+pub record Askable (d : ℕ) (view list : List ℕ) : Type 0 where
+  pub few : length view ≤ mostInView
+  pub room : length view ≤ length list
+  pub column : InColumn d view
 
 -- places for each row of the view, and for a seat of each value
 pub record Places (view places : List ℕ) : Type 0 where

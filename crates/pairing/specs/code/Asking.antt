@@ -10,7 +10,7 @@ use lib.ListN.{length}
 use Rattle.sets.specs.Sets.{has}
 use Rattle.sets.specs.Rows.{width}
 use Rattle.theory.specs.Pairings.{size, at, Seated, Pairing}
-use Rattle.theory.specs.Search.{Heard}
+use Rattle.theory.specs.code.Search.{Heard}
 
 -- every member of a is one of b
 abbrev pub Inside : ℕ → ℕ → Type 0

@@ -18,7 +18,7 @@ use Rattle.store.specs.declared.Answer.the-variants.{Done, Refused}
 use Rattle.refusals.specs.Cases.{decided}
 use Rattle.store.specs.Answers.{accepted}
 use Rattle.store.specs.Desks.{questionCases, answerTo, writtenFor, changeCases, serve, written, listAfter}
-use Rattle.sheet.specs.Surveys.{sheetOf}
+use Rattle.sheet.specs.code.Surveys.{sheetOf}
 use Rattle.sets.specs.Limits.{mostRows, mostDesks, mostPlaces, mostHeld}
 use Rattle.refusals.specs.TableCases.{tableCases}
 use Rattle.store.specs.Calls.{crowded, answered, changed, sheetAfter, told}
