@@ -1,5 +1,5 @@
--- Any run of a reader that the contracts of `Reader::new` and `Reader::next` admit hands out the rows of `handedOut`, of which `ReaderTurns` shows that
--- they are the file's, in turn, and then no more. Assumes nothing.
+-- Any run of a reader that the contracts of `Reader::new` and `Reader::next` admit hands out the rows of `handedOut`,
+-- of which `ReaderTurns` shows that they are the file's, in turn, and then no more. Assumes nothing.
 use Prim.Native.Nat.{ℕ, zero, suc}
 use mathlib.Core.Path.{_≡_, refl, ap, _∙_}
 use mathlib.Core.List.{List, [], _∷_}

@@ -105,7 +105,8 @@ rest-has (suc k) n h ne v = elim (low-digit n) [
 pub rest-is : (k n : ℕ) → n < 2 ^ k → n ≢ zero → bitAnd n (n - 1) ≡ minus n (single (trailingZeros k n))
 rest-is k n h ne =
     set-ext (bitAnd n (n - 1)) (minus n (single (trailingZeros k n)))
-    (λ v. rest-has k n h ne v ∙ ap (λ (b : Bool). has n v && not b) (sym (has-single (trailingZeros k n) v)) ∙ sym (has-minus n (single (trailingZeros k n)) v))
+    (λ v. rest-has k n h ne v ∙ ap (λ (b : Bool). has n v && not b) (sym (has-single (trailingZeros k n) v))
+    ∙ sym (has-minus n (single (trailingZeros k n)) v))
 
 -- ---- the highest
 

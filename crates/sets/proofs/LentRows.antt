@@ -79,7 +79,8 @@ module _ (ws : List ℕ) (i r : ℕ) (h : i < length (rowsOf ws)) where
   unfolding inWords
   front-length =
       length-append (take (i * rowWords) ws) (wordsOf (asRow r) ++ [])
-      ∙ ap₂ (λ (m n : ℕ). m + n) (length-take-le (i * rowWords) ws (rows-end ws i (omega (arith, h)))) (ap length (append-nil (wordsOf (asRow r)))) ∙ size
+      ∙ ap₂ (λ (m n : ℕ). m + n) (length-take-le (i * rowWords) ws (rows-end ws i (omega (arith, h)))) (ap length (append-nil (wordsOf (asRow r))))
+      ∙ size
 
   pub put-front : take (suc i * rowWords) (putRow ws i r) ≡ take (i * rowWords) ws ++ inWords (r ∷ [])
   put-front =

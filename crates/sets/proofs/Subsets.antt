@@ -19,7 +19,8 @@ pub has-subset : (a b : ℕ) → ((v : ℕ) → has a v ≡ true → has b v ≡
 unfolding subset
 has-subset a b f =
     eq-eqb (bitAnd a b) a
-    (set-antisym (bitAnd a b) a (λ v h. and-left (has a v) (has b v) (sym (has-and a b v) ∙ h)) (λ v h. has-and a b v ∙ and-both (has a v) (has b v) h (f v h)))
+    (set-antisym (bitAnd a b) a (λ v h. and-left (has a v) (has b v) (sym (has-and a b v) ∙ h))
+    (λ v h. has-and a b v ∙ and-both (has a v) (has b v) h (f v h)))
 
 pub subset-refl : (a : ℕ) → subset a a ≡ true
 subset-refl a = has-subset a a (λ v h. h)

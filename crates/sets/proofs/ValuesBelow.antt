@@ -127,4 +127,5 @@ subset-outside k a b h = elim (true-or-false (subset a b)) [
     in-b z v t (inl e) = e
     in-b z v t (inr e) =
         absurd
-        (not-both (has-and a out v ∙ and-both (has a v) (has out v) t (minus-in (2 ^ k - 1) b v (all-has k v (has-less k a v h t)) e)) (ap (λ (x : ℕ). has x v) z ∙ has-empty v))
+        (not-both (has-and a out v ∙ and-both (has a v) (has out v) t (minus-in (2 ^ k - 1) b v (all-has k v (has-less k a v h t)) e))
+        (ap (λ (x : ℕ). has x v) z ∙ has-empty v))

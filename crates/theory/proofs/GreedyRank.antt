@@ -200,7 +200,8 @@ module _ (d : ℕ) (view : List ℕ) where
         | inl z ↦
             let q = restrict ms n p i v fits (met .1) (over .1 .pairing) (over .1 .busy) z e in
             absurd
-            (none i (omega (arith, at-less p i v e, over .1 .pairing .fits)) (omega (arith, q .2, met .2, rank-bound d (mask (set ms i true) view) (q .0) (q .1))))
+            (none i (omega (arith, at-less p i v e, over .1 .pairing .fits))
+            (omega (arith, q .2, met .2, rank-bound d (mask (set ms i true) view) (q .0) (q .1))))
       ]
 
       above : rank d view ≤ ρ ms
@@ -257,7 +258,8 @@ module _ (d : ℕ) (view : List ℕ) where
   tries-reached zero i ms fits before = record { fits = fits; more = λ x f. f; settled = λ x h. before x (omega arith); cost = omega arith }
   tries-reached (suc n) i ms fits before =
       let g : Reached ms (try d view ms i) (suc i) = try-reached ms i fits before in
-      let h : Reached (try d view ms i) (tries d view n (suc i) (try d view ms i)) (suc i + n) = tries-reached n (suc i) (try d view ms i) (g .fits) (g .settled) in
+      let h : Reached (try d view ms i) (tries d view n (suc i) (try d view ms i)) (suc i + n) =
+          tries-reached n (suc i) (try d view ms i) (g .fits) (g .settled) in
       record {
         fits = h .fits;
         more = λ x f. h .more x (g .more x f);

@@ -57,7 +57,12 @@ under view r m = descend (λ a. List·Memᴰ a view) (Under view) (λ a. a) step
         t .0,
         t .1,
         proper-less (t .0) a (t .2),
-        λ u. record { row = u .row; there = u .there; least = u .least; inside = subset-trans (u .row) (t .0) a (u .inside) (proper-subset (t .0) a (t .2)) },
+        λ u. record {
+          row = u .row;
+          there = u .there;
+          least = u .least;
+          inside = subset-trans (u .row) (t .0) a (u .inside) (proper-subset (t .0) a (t .2));
+        },
       )
     ]
 
@@ -89,7 +94,9 @@ after-in view before (r ∷ rows) x e f m =
     go rec (yes s) true g k = List·Memᴰ·head s
     go rec (yes s) false g k =
         absurd
-        (not-both (and-both (minimal view r) (not (among r before)) (ap (minimal view) (sym s) ∙ e) (false-not (among r before) (ap (λ (y : ℕ). among y before) (sym s) ∙ f))) g)
+        (not-both
+        (and-both (minimal view r) (not (among r before)) (ap (minimal view) (sym s) ∙ e)
+        (false-not (among r before) (ap (λ (y : ℕ). among y before) (sym s) ∙ f))) g)
     go rec (no n) b g (inl s) = absurd (n s)
     go rec (no n) true g (inr k) = List·Memᴰ·tail (rec n k)
     go rec (no n) false g (inr k) = rec n k
@@ -108,7 +115,10 @@ after-out view before (r ∷ rows) x m = go (λ k. after-out view (r ∷ before)
 
     this : (minimal view r && not (among r before)) ≡ true → x ≡ r → Fresh view before x
     this g s =
-        (ap (minimal view) s ∙ and-left (minimal view r) (not (among r before)) g, ap (λ (y : ℕ). among y before) s ∙ not-true (among r before) (and-right (minimal view r) (not (among r before)) g))
+        (
+          ap (minimal view) s ∙ and-left (minimal view r) (not (among r before)) g,
+          ap (λ (y : ℕ). among y before) s ∙ not-true (among r before) (and-right (minimal view r) (not (among r before)) g),
+        )
 
     go : (List·Memᴰ x (pick (firstsAfter view (r ∷ before) rows) rows) → Fresh view (r ∷ before) x) → (b : Bool)
         → (minimal view r && not (among r before)) ≡ b

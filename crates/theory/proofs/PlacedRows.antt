@@ -103,8 +103,14 @@ module _ (d : ℕ) (view : List ℕ) where
         mates = set (T .mates) i (suc v);
         pairing = pairing-put d view (T .mates) i v (T .pairing) hi (h .0) (λ s. h .1 (T .from v s));
         sizes = size-more (T .mates) i v hi free ∙ ap suc (T .sizes);
-        listed = λ j w e. elim (stored (T .mates) i (suc v) j hi) [ inl s ↦ List·Memᴰ·head (s .0) | inr s ↦ List·Memᴰ·tail (T .listed j w (sym (s .1) ∙ e)) ];
-        from = λ w s. elim (stored (T .mates) i (suc v) (s .0) hi) [ inl k ↦ (zero, sym (k .1) ∙ s .1) | inr k ↦ later (suc v) w (T .from w (s .0, sym (k .1) ∙ s .1)) ];
+        listed = λ j w e. elim (stored (T .mates) i (suc v) j hi) [
+          | inl s ↦ List·Memᴰ·head (s .0)
+          | inr s ↦ List·Memᴰ·tail (T .listed j w (sym (s .1) ∙ e))
+        ];
+        from = λ w s. elim (stored (T .mates) i (suc v) (s .0) hi) [
+          | inl k ↦ (zero, sym (k .1) ∙ s .1)
+          | inr k ↦ later (suc v) w (T .from w (s .0, sym (k .1) ∙ s .1))
+        ];
       }
         where
           hi : i < length (T .mates)
@@ -215,7 +221,8 @@ module _ (d : ℕ) (view : List ℕ) where
         met .2,
         low,
         size-listed,
-        most (rowsAt (met .0) (is ++ x ∷ [])) (listed-pairing (is ++ x ∷ []) (met .0) apart⁺ (pairing-whole d view (met .0) (set hs x true) (met .1))),
+        most (rowsAt (met .0) (is ++ x ∷ []))
+            (listed-pairing (is ++ x ∷ []) (met .0) apart⁺ (pairing-whole d view (met .0) (set hs x true) (met .1))),
       )
         where
           met : OfRank d (mask (set hs x true) view)

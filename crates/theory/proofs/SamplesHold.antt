@@ -8,9 +8,10 @@ use Rattle.theory.specs.Pairings.{mates, among, once, onces, pairings, s
 use Rattle.theory.specs.Kept.{pick, minimal, firstsAfter, firsts, try, tries, marks, positions, kept}
 use Rattle.theory.specs.Samples.{Sample, samples, ab, c, cd, ce, d}
 
-pub cases-hold : map (λ (k : Sample). kept 6 (k .view)) samples ≡ map (λ (k : Sample). k .keeps) samples
-unfolding flatMap has subset proper values selections mates among once onces pairings size most rank pick minimal firstsAfter firsts try tries marks positions kept
-cases-hold = refl
+pub samples-hold : map (λ (k : Sample). kept 6 (k .view)) samples ≡ map (λ (k : Sample). k .keeps) samples
+unfolding flatMap has subset proper values selections mates among once onces pairings size most rank pick minimal firstsAfter
+    firsts try tries marks positions kept
+samples-hold = refl
 
 -- 'The family of P5 is {cd}, {cde}', each once for each choice that gives it
 pub family-P5 : family 6 (c ∷ d ∷ cd ∷ ce ∷ []) ≡ cd ∷ 0b11100 ∷ cd ∷ 0b11100 ∷ []

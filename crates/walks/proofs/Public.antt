@@ -1,5 +1,5 @@
--- What it is to be a public call, said of the contract that the prover made of the source: it asks nothing of its callers, and any two outcomes that it
--- admits are the same to whoever called. A contract that asks or leaves open more than it did has no such theorem. Assumes nothing.
+-- What it is to be a public call, said of the contract that the prover made of the source: it asks nothing of its callers, and any two outcomes
+-- that it admits are the same to whoever called. A contract that asks or leaves open more than it did has no such theorem. Assumes nothing.
 use Prim.Native.Nat.{ℕ}
 use mathlib.Core.Path.{_≡_}
 use mathlib.Core.List.{List}

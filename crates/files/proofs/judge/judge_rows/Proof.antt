@@ -33,7 +33,8 @@ returns-2 c =
     let none = sym (c .before .before .before .before .before .before .over .ensures) ∙ c .before .before .before .before .enum-told .given .1 in
     let some = c .before .before .before .if1 .left in
     let all = c .before .before .union .ensures .0 in
-    sym (unknown (e .args .file .now) (e .args .d) (e .args .t) (e .pre .0) (e .pre .1) _ none some (sym all ∙ eqb-true _ _ (sym (c .before .is-empty .ensures) ∙ c .if2 .taken)))
+    sym (unknown (e .args .file .now) (e .args .d) (e .args .t) (e .pre .0) (e .pre .1) _ none some
+    (sym all ∙ eqb-true _ _ (sym (c .before .is-empty .ensures) ∙ c .if2 .taken)))
 
 returns-3 : tie.Need-returns-3
 returns-3 c =
@@ -47,7 +48,8 @@ returns-4 c =
     let none = sym (c .before .before .before .before .before .before .over .ensures) ∙ c .before .before .before .before .enum-told .given .1 in
     let some = c .before .before .before .if1 .left in
     let all = c .before .before .union .ensures .0 in
-    sym (known (e .args .file .now) (e .args .d) (e .args .t) (e .pre .0) (e .pre .1) _ none some (λ z. eqb-false _ _ (sym (c .before .is-empty .ensures) ∙ c .if2 .left) (all ∙ z)))
+    sym (known (e .args .file .now) (e .args .d) (e .args .t) (e .pre .0) (e .pre .1) _ none some
+    (λ z. eqb-false _ _ (sym (c .before .is-empty .ensures) ∙ c .if2 .left) (all ∙ z)))
 
 pub judge-rows-spec : {M : Type 1} → statement M
 judge-rows-spec =
