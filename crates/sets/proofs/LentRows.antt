@@ -7,12 +7,12 @@ use native.Mathlib.Nat.{zero-lt-suc, not-suc-le-zero, le-of-suc-le-suc, zero-mul
 use native.Mathlib.Omega.{arith}
 use lib.ListN.{length, getD, take, drop, set, replicate, length-append, length-replicate, replicate-append-replicate}
 use lib.Pow.{pow-pos}
-use lib.Seq.{sets, length-sets, sets-eq, take-at, length-take-le, drop-at}
+use lib.Seq.{length-sets, sets-eq, take-at, length-take-le, drop-at}
 use Rattle.sets.specs.declared.Row.{Row}
-use Rattle.sets.specs.Words.{bitsOf, rowsFrom, rowsIn}
+use Rattle.sets.specs.Words.{bitsOf, rowsIn}
 use Rattle.sets.specs.Rows.{rowWords, width, wordsOf, bits, asRow, rowsOf, inWords, putRow}
-use Rattle.sets.proofs.RowsInWords.{wordsFrom, in-length, in-end, in-room, in-at, in-less, in-put, in-single, take-less}
-use Rattle.sets.proofs.RowsInWords.{in-append, in-part, in-few, in-front, in-take, in-drop, in-zero}
+use Rattle.sets.proofs.RowsInWords.{wordsFrom, in-length, in-end, in-room, in-at, in-less, in-put, in-single}
+use Rattle.sets.proofs.RowsInWords.{in-append, in-few, in-front, in-take, in-zero}
 use Rattle.sets.proofs.RowValues.{bits-less, row-bits}
 use Rattle.sets.proofs.OneWord.{words-of-length, words-of-zero}
 
@@ -98,17 +98,9 @@ pub rows-append : (k : ℕ) (ws vs : List ℕ) → length ws ≡ k * rowWords �
 unfolding rowsOf
 rows-append = in-append rowWords some
 
-pub rows-part : (k : ℕ) (ws vs : List ℕ) → length ws ≡ k * rowWords → take k (rowsOf (ws ++ vs)) ≡ rowsOf ws
-unfolding rowsOf
-rows-part = in-part rowWords some
-
 pub rows-few : (ws : List ℕ) → length ws < rowWords → rowsOf ws ≡ []
 unfolding rowsOf
 rows-few = in-few rowWords some
-
--- the words left over at the end, fewer than a row has, are not read
-pub rows-leftover : (k : ℕ) (ws left : List ℕ) → length ws ≡ k * rowWords → length left < rowWords → rowsOf (ws ++ left) ≡ rowsOf ws
-rows-leftover k ws left e h = rows-append k ws left e ∙ ap (λ (r : List ℕ). rowsOf ws ++ r) (rows-few left h) ∙ append-nil (rowsOf ws)
 
 pub rows-front : (k : ℕ) (ws : List ℕ) → k ≤ length (rowsOf ws) → length (rowsOf (take (k * rowWords) ws)) ≡ k
 unfolding rowsOf
@@ -117,10 +109,6 @@ rows-front = in-front rowWords some
 pub rows-take : (k : ℕ) (ws : List ℕ) → k ≤ length (rowsOf ws) → rowsOf (take (k * rowWords) ws) ≡ take k (rowsOf ws)
 unfolding rowsOf
 rows-take = in-take rowWords some
-
-pub rows-drop : (k : ℕ) (ws : List ℕ) → k ≤ length (rowsOf ws) → rowsOf (drop (k * rowWords) ws) ≡ drop k (rowsOf ws)
-unfolding rowsOf
-rows-drop = in-drop rowWords some
 
 pub rows-zero : (k : ℕ) → rowsOf (replicate (k * rowWords) 0) ≡ replicate k 0
 unfolding rowsOf
@@ -158,15 +146,6 @@ Narrow (r ∷ rows) = (r < 2 ^ width) × Narrow rows
 pub narrow-append : (xs bs : List ℕ) → Narrow xs → Narrow bs → Narrow (xs ++ bs)
 narrow-append [] bs p q = q
 narrow-append (r ∷ xs) bs p q = (p .0, narrow-append xs bs (p .1) q)
-
-narrow-from : (k : ℕ) (ws : List ℕ) → Narrow (rowsFrom rowWords k ws)
-unfolding rowsFrom
-narrow-from zero ws = tt
-narrow-from (suc k) ws = (take-less rowWords ws, narrow-from k (drop rowWords ws))
-
-pub rows-narrow : (ws : List ℕ) → Narrow (rowsOf ws)
-unfolding rowsOf rowsIn
-rows-narrow ws = narrow-from (length ws / rowWords) ws
 
 pub narrow-zeros : (k : ℕ) → Narrow (replicate k 0)
 narrow-zeros zero = tt

@@ -2,13 +2,15 @@
 use Prim.Native.Nat.{ℕ, zero, _%_, _^_, _<_}
 use mathlib.Core.Path.{_≡_, refl, sym, ap, _∙_}
 use native.Mathlib.Nat.{mod-eq-of-lt}
+use mathlib.Core.List.{List}
 use mir.Syntax.{w64}
 use mir.Val.{Fits}
 use lib.ListN.{length, replicate}
 use Rattle.sets.specs.declared.Row.{Row}
 use Rattle.sets.specs.Limits.{wordBits}
-use Rattle.sets.specs.Rows.{rowWords, width, wordsOf, bits, asRow}
-use Rattle.sets.proofs.WordSets.{one-word, word-less}
+use Rattle.sets.specs.Rows.{rowWords, width, wordsOf, bits, asRow, rowsOf}
+use Rattle.sets.proofs.WordSets.{one-word, word-less, AreWords}
+use Rattle.sets.proofs.RowsInWords.{in-one}
 
 pub bits-is : (r : Row) → Fits w64 (r .low) × Unit {0} → bits r ≡ r .low
 unfolding bits wordsOf
@@ -45,3 +47,8 @@ cut-row n = row-made (mod-eq-of-lt (word-less n))
 -- a row's set is the set of that very row
 pub word-again : (n : ℕ) → asRow (bits (asRow n)) ≡ asRow n
 word-again n = ap asRow (in-row n) ∙ cut-row n
+
+-- the rows of words that a machine holds are those words, in their order
+pub rows-are-words : (ws : List ℕ) → AreWords ws → rowsOf ws ≡ ws
+unfolding rowsOf
+rows-are-words = in-one

@@ -130,10 +130,6 @@ module _ (n : ℕ) (some : 0 < n) where
       ∙ from-append n k (length vs / n) ws vs e
       ∙ ap (λ (x : ℕ). rowsFrom n x ws ++ rowsFrom n (length vs / n) vs) (sym (ap (λ (x : ℕ). x / n) e ∙ mul-div-cancel k some))
 
-  pub in-part : (k : ℕ) (ws vs : List ℕ) → length ws ≡ k * n → take k (rowsIn n (ws ++ vs)) ≡ rowsIn n ws
-  in-part k ws vs e =
-      ap (take k) (in-append k ws vs e) ∙ take-at (rowsIn n ws) (rowsIn n vs) k (in-length ws ∙ ap (λ (x : ℕ). x / n) e ∙ mul-div-cancel k some)
-
   -- the words of one row
   pub in-single : (ws : List ℕ) → length ws ≡ n → rowsIn n ws ≡ bitsOf ws ∷ []
   unfolding rowsIn rowsFrom
@@ -159,9 +155,6 @@ module _ (n : ℕ) (some : 0 < n) where
 
     pub in-take : rowsIn n (take (k * n) ws) ≡ take k (rowsIn n ws)
     in-take = sym (ap (take k) parted ∙ take-at (rowsIn n (take (k * n) ws)) (rowsIn n (drop (k * n) ws)) k in-front)
-
-    pub in-drop : rowsIn n (drop (k * n) ws) ≡ drop k (rowsIn n ws)
-    in-drop = sym (ap (drop k) parted ∙ drop-at (rowsIn n (take (k * n) ws)) (rowsIn n (drop (k * n) ws)) k in-front)
 
   -- words that are all zero are empty rows
   pub in-zero : (k : ℕ) → rowsIn n (replicate (k * n) 0) ≡ replicate k 0

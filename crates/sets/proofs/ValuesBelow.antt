@@ -3,16 +3,15 @@ use Prim.Native.Nat.{ℕ, zero, suc, _-_, _*_, _/_, _%_, _^_, _<_}
 use mathlib.Core.Path.{_≡_, refl, sym, ap, _∙_, subst}
 use mathlib.Core.Logic.{_≢_, _⊎_, inl, inr}
 use mathlib.Core.Bool.{true, false, not, _&&_, false≢true}
-use mathlib.Core.List.{List, [], _∷_, List·Memᴰ, List·Memᴰ·head, List·Memᴰ·tail}
 use native.Mathlib.Nat.{not-suc-le-zero, le-of-suc-le-suc, div-eq-of-lt, lt-of-lt-of-le, div-lt-iff-lt-mul, pow-suc, zero-lt-suc}
 use native.Mathlib.Decide.{decLt}
 use native.Mathlib.Omega.{arith}
 use lib.Arith.{bin-ind}
-use lib.Bits.{bitAnd, or-lt}
+use lib.Bits.{bitAnd}
 use lib.Dec.{eqb}
 use lib.Pow.{pow-mono, pow-pos, ones-lt}
 use borrow.Author.Tests.{lt-ltb, ltb-true, eqb-false, eq-eqb, ne-eqb, not-true}
-use Rattle.sets.specs.Sets.{has, union, subset, minus, below, within}
+use Rattle.sets.specs.Sets.{has, subset, minus, below, within}
 use Rattle.sets.proofs.Bools.{and-left, and-right, and-both, true-or-false, not-both, bool-ext}
 use Rattle.sets.proofs.Values.{has-and, has-empty, has-zero, has-suc, minus-in, minus-out, set-ext}
 use Rattle.sets.proofs.Subsets.{subset-has, has-subset}
@@ -100,9 +99,6 @@ pub within-has : (d r v : ℕ) → within d r ≡ true → has r v ≡ true → 
 within-has d r v e h = has-less d r v (within-less d r e) h
 
 -- ---- differences and unions
-
-pub minus-word : (k a b : ℕ) → a < 2 ^ k → minus a b < 2 ^ k
-minus-word k a b h = less-has k (minus a b) (λ v e. has-less k a v h (minus-out a b v e .0))
 
 -- ---- a subset has nothing outside
 

@@ -1,23 +1,16 @@
 -- Sets held in words act word by word, whatever the number of words: intersection, union and difference. Assumes nothing.
-use Prim.Native.Nat.{ℕ, zero, suc, _+_, _-_, _/_, _%_, _^_, _<_}
+use Prim.Native.Nat.{ℕ, zero, _+_, _-_, _/_, _%_, _^_, _<_}
 use mathlib.Core.Path.{_≡_, refl, sym, ap, ap₂, _∙_}
-use mathlib.Core.Bool.{Bool, true, _&&_}
 use mathlib.Core.List.{List, [], _∷_}
-use native.Mathlib.Nat.{mod-lt, mod-eq-of-lt, suc-inj, zero-add, add-comm}
-use native.Mathlib.Decide.{decLt}
+use native.Mathlib.Nat.{mod-lt, mod-eq-of-lt, suc-inj, zero-add}
 use native.Mathlib.Omega.{arith}
-use lib.Bits.{bitAnd, bitOr, bitXor, and-block, or-block, xor-block, and-mod, or-mod, xor-mod, or-add-and, and-le-l, and-le-r, and-zero-r, xor-zero-r}
-use lib.Count.{ones, ones-cat}
-use lib.Dec.{eqb}
-use lib.ListN.{length, getD}
-use lib.Pow.{pow-pos, pow-lt, ones-split, high, low}
-use borrow.Author.Tests.{eq-eqb, eqb-true}
+use lib.Bits.{bitAnd, bitOr, bitXor, and-block, or-block, xor-block, and-mod, or-mod, xor-mod}
+use lib.ListN.{length}
+use lib.Pow.{pow-pos, high, low}
 use Rattle.sets.specs.Limits.{wordBits}
-use Rattle.sets.specs.Sets.{has, single, union, minus, words}
+use Rattle.sets.specs.Sets.{union, minus, words}
 use Rattle.sets.specs.Words.{bitsOf}
-use Rattle.sets.proofs.Bools.{and-left, and-right, bool-ext}
-use Rattle.sets.proofs.Values.{has-empty}
-use Rattle.sets.proofs.Words.{low-has, high-has, same-words, minus-words, words-less, has-low, single-low, single-high}
+use Rattle.sets.proofs.Words.{minus-words, words-less}
 
 -- ---- one word
 

@@ -2,9 +2,8 @@
 ghost use mathlib.Core.Path.{_≡_};
 ghost use Prim.Native.Nat.{_-_, _^_, _<_, _≤_};
 ghost use lib.Bits.{bitOr};
-ghost use lib.Count.{trailingZeros, leadingZeros};
 ghost use Rattle.sets.specs.Limits.{wordBits};
-ghost use Rattle.sets.specs.Sets.{has, single, subset, minus, below, within};
+ghost use Rattle.sets.specs.Sets.{has, single, subset, minus};
 
 // How many bits a word has.
 pub const BITS: usize = 64;
@@ -46,14 +45,6 @@ pub fn with(set: u64, v: usize) -> u64
     set | (1 << v)
 }
 
-// The set with the value v taken out.
-pub fn without(set: u64, v: usize) -> u64
-    requires { ⌜ v < wordBits ⌝ }
-    ensures { λ r. ⌜ r ≡ minus set (single v) ⌝ }
-{
-    minus(set, 1 << v)
-}
-
 // The set of all values below d.
 pub fn all(d: usize) -> u64
     requires { ⌜ d ≤ wordBits ⌝ }
@@ -64,42 +55,4 @@ pub fn all(d: usize) -> u64
     } else {
         0xffff_ffff_ffff_ffff
     }
-}
-
-// The lowest value of the set, and `BITS` where it has none.
-pub fn lowest(set: u64) -> usize
-    ensures { λ r. ⌜ r ≡ trailingZeros wordBits set ⌝ }
-{
-    u64::trailing_zeros(set) as usize
-}
-
-// The set without its lowest value.
-pub fn rest(set: u64) -> u64
-    ensures { λ r. ⌜ r ≡ minus set (single (trailingZeros wordBits set)) ⌝ }
-{
-    if set == 0 {
-        return 0;
-    }
-    set & (set - 1)
-}
-
-// One more than the highest value of the set, and 0 where it has none.
-pub fn top(set: u64) -> usize
-    ensures { λ r. ⌜ r ≡ wordBits - leadingZeros wordBits set ⌝ }
-{
-    BITS - u64::leading_zeros(set) as usize
-}
-
-// No value d or above.
-pub fn below(set: u64, d: usize) -> bool
-    ensures { λ r. ⌜ r ≡ below d set ⌝ }
-{
-    if d < BITS { set >> d == 0 } else { true }
-}
-
-// Not empty, and no value d or above.
-pub fn within(set: u64, d: usize) -> bool
-    ensures { λ r. ⌜ r ≡ within d set ⌝ }
-{
-    if set == 0 { false } else { below(set, d) }
 }

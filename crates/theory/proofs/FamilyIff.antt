@@ -148,8 +148,8 @@ pub admits-family : (d : ℕ) (rows : List ℕ) (s : ℕ) → zero < length rows
 admits-family d rows s h A =
     let m = choose d rows (A .mates) s (A .pairing) (A .meets) in
     let same : valueSet (m .taken) ≡ s =
-        set-antisym (valueSet (m .taken)) s (λ v e. m .inside v (value-out (m .taken) v e))
-        (λ v e. value-in (m .taken) v (m .all v e (A .seated v e))) in
+    set-antisym (valueSet (m .taken)) s (λ v e. m .inside v (value-out (m .taken) v e))
+    (λ v e. value-in (m .taken) v (m .all v e (A .seated v e))) in
     subst (λ (x : ℕ). List·Memᴰ x (family d rows)) same (choice-family d rows (m .taken) h (m .choice))
 
 -- ---- the lemma

@@ -259,7 +259,7 @@ module _ (d : ℕ) (view : List ℕ) where
   tries-reached (suc n) i ms fits before =
       let g : Reached ms (try d view ms i) (suc i) = try-reached ms i fits before in
       let h : Reached (try d view ms i) (tries d view n (suc i) (try d view ms i)) (suc i + n) =
-          tries-reached n (suc i) (try d view ms i) (g .fits) (g .settled) in
+      tries-reached n (suc i) (try d view ms i) (g .fits) (g .settled) in
       record {
         fits = h .fits;
         more = λ x f. h .more x (g .more x f);

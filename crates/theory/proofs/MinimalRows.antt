@@ -114,11 +114,10 @@ after-out view before (r ∷ rows) x m = go (λ k. after-out view (r ∷ before)
     later (e, f) = (e, is-false (among x before) (λ g. not-both (or-right (eqb x r) (among x before) g) f))
 
     this : (minimal view r && not (among r before)) ≡ true → x ≡ r → Fresh view before x
-    this g s =
-        (
-          ap (minimal view) s ∙ and-left (minimal view r) (not (among r before)) g,
-          ap (λ (y : ℕ). among y before) s ∙ not-true (among r before) (and-right (minimal view r) (not (among r before)) g),
-        )
+    this g s = (
+      ap (minimal view) s ∙ and-left (minimal view r) (not (among r before)) g,
+      ap (λ (y : ℕ). among y before) s ∙ not-true (among r before) (and-right (minimal view r) (not (among r before)) g),
+    )
 
     go : (List·Memᴰ x (pick (firstsAfter view (r ∷ before) rows) rows) → Fresh view (r ∷ before) x) → (b : Bool)
         → (minimal view r && not (among r before)) ≡ b

@@ -147,8 +147,8 @@ module _ (d : ℕ) (xs ys : List ℕ) (A : Rows d xs) (B : Rows d ys) (same : Sa
             | inl o ↦ (t .0, used (t .0) o, t .1)
             | inr none ↦
                 let w =
-                    taken d xs p (i .0) (t .0) P (λ q Q. omega (arith, met .2, rank-bound d xs q Q)) (omega (arith, i .1, P .fits))
-                    (subst (λ (k : ℕ). In d k (t .0)) (i .2) (t .1)) none in
+                taken d xs p (i .0) (t .0) P (λ q Q. omega (arith, met .2, rank-bound d xs q Q)) (omega (arith, i .1, P .fits))
+                (subst (λ (k : ℕ). In d k (t .0)) (i .2) (t .1)) none in
                 (w .0, used (w .0) (i .0, w .1), subst (λ (k : ℕ). In d k (w .0)) (sym (i .2)) (P .holds (i .0) (w .0) (w .1)))
           ]
 

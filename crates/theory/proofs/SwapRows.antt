@@ -91,8 +91,8 @@ module _ (d : ℕ) (rows n : List ℕ) (N : Pairing d rows n) where
       closer : differ n (set m₁ i (suc v)) < differ n m
       closer =
           let a : suc (differ n (set m₁ i (suc v))) ≡ differ n m₁ =
-              subst (λ (x : ℕ). suc (differ n (set m₁ i x)) ≡ differ n m₁) e
-              (differ-copy n m₁ i hn hi₁ (λ same. not-mate z₁ (sym same ∙ e))) in
+          subst (λ (x : ℕ). suc (differ n (set m₁ i x)) ≡ differ n m₁) e
+          (differ-copy n m₁ i hn hi₁ (λ same. not-mate z₁ (sym same ∙ e))) in
           let b : differ n m₁ ≤ differ n m = differ-store n m j zero (λ same. i≢j (N .apart i j v e (same ∙ jv))) in
           omega arith
 

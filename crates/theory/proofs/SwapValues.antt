@@ -70,8 +70,8 @@ module _ (d : ℕ) (rows m : List ℕ) (M : Pairing d rows m) where
       closer : differ m (set n i (suc v)) < differ m n
       closer =
           let c : suc (differ m (set n i (suc v))) ≡ differ m n =
-              subst (λ (x : ℕ). suc (differ m (set n i x)) ≡ differ m n) e
-              (differ-copy m n i hm hn (λ same. none (i, sym same ∙ e))) in
+          subst (λ (x : ℕ). suc (differ m (set n i x)) ≡ differ m n) e
+          (differ-copy m n i hm hn (λ same. none (i, sym same ∙ e))) in
           omega arith
 
   pub swap-values : (n : List ℕ) → Pairing d rows n → Largest d rows n → Goal n

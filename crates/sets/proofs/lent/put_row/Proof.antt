@@ -7,7 +7,7 @@ use lib.Bits.{or-zero-r}
 use lib.ListN.{set}
 use borrow.Author.Needs.{needs}
 use Rattle.sets.specs.Limits.{wordBits}
-use Rattle.sets.specs.Rows.{wordsOf, bits, asRow, putRow}
+use Rattle.sets.specs.Rows.{wordsOf, asRow, putRow}
 use Rattle.sets.proofs.LentRows.{rows-room}
 use Rattle.sets.proofs.OneWord.{bits-is}
 use Rattle.sets.proofs.lent.put_row.Statement.{statement}
