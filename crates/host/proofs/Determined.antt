@@ -34,7 +34,8 @@ pub host-distinct-determined : Public 2 distinct-kinds.ps distinct-kinds.r disti
 host-distinct-determined =
     record { asks-nothing = λ κs a. tt; determined = λ κs a r r′ e e′ p q i. ((p .0 ∙ sym (q .0)) i, (p .1 ∙ sym (q .1)) i) }
 
--- what the entry in place ensures of its arguments (the sheet, the table, d, the desk, the kind, its argument, the list), what it tells, and what it lent
+-- what the entry in place ensures of its arguments (the sheet, the table, d, the desk, the kind, its argument, the list),
+-- what it tells, and what it lent
 abbrev pub Alters : (κs : Lfts 3) → Args alter.signature κs → Res alter.signature κs → AtExit alter.ended κs → Type 0
 Alters κs (s, (table, (d, (desk, (kind, (n, (list, _))))))) r (s′, (table′, (d′, (desk′, (kind′, (n′, (list′, _))))))) =
     (r ≡ handedBy (askedBy kind n) d (rowsOf (now table)) (now s) desk (length (now list)) .told)

@@ -19,8 +19,8 @@ use Rattle.host.specs.Numbers.{plainKept}
 use Rattle.host.specs.Spoken.{askedBy, plainOf}
 
 pub kinds-printed : (n : ℕ) → map (λ (kind : ℕ). askedBy kind n) (0 ∷ 1 ∷ 2 ∷ 3 ∷ 4 ∷ 5 ∷ 6 ∷ [])
-    ≡ One (Do (Delete (Table n))) ∷ One (Do (Delete (Own n))) ∷ One (Do (Insert (asRow n))) ∷ One (Do Reset) ∷ One (Ask (Look n)) ∷ One (Ask Count) ∷ One
-    (Ask Distinct) ∷ []
+    ≡ One (Do (Delete (Table n))) ∷ One (Do (Delete (Own n))) ∷ One (Do (Insert (asRow n))) ∷ One (Do Reset)
+    ∷ One (Ask (Look n)) ∷ One (Ask Count) ∷ One (Ask Distinct) ∷ []
 unfolding askedBy
 kinds-printed n = refl
 

@@ -19,13 +19,22 @@ use Rattle.store.specs.declared.Answer.{Answer}
 use Rattle.store.specs.declared.Answer.the-variants.{Refused}
 use Rattle.refusals.specs.Cases.{_gives_, decided}
 use Rattle.store.specs.Answers.{accepted, numberOf}
-use Rattle.store.specs.Desks.{serve, listAfter, telling, written}
+use Rattle.store.specs.Desks.{serve, listAfter, telling, written, Told}
 use Rattle.store.specs.Calls.{begunAnswer, crowded}
-use Rattle.store.specs.Promise.{Turn, Store, hiddenIn, ownIn, member, alone, history, heldBy, usedBy, owedBy, properCall, properInsert, Demand3, sheetOn, classStore}
+use Rattle.store.specs.Promise.{Turn, Store, hiddenIn, ownIn, member, alone, history, heldBy, usedBy, owedBy}
+use Rattle.store.specs.Promise.{properCall, properInsert, Demand3, sheetOn, classStore}
 use Rattle.store.proofs.Judging.{Good, good-parts, given, not-given, skipped}
 use Rattle.store.proofs.SheetRuns.{reached, answered-here}
 use Rattle.store.proofs.DeskRuns.{agrees, no-history, held-is, used-is, owed-is}
 use Rattle.store.proofs.Told.{serve-same, telling-same, ten-is, serve-ten, ten-serve, serve-next, serve-but-ten}
+
+-- what a proper insert has
+pub proper-parts : (d desks : ℕ) (t : Turn) → properInsert d desks t ≡ true → (t .desk < desks) × (properCall d (t .call) ≡ true)
+unfolding properInsert
+proper-parts d desks t p =
+    let there = ltb (t .desk) desks in
+    let proper = properCall d (t .call) in
+    (ltb-true (t .desk) desks (and-left there proper p), and-right there proper p)
 
 module _ {d : ℕ} {table : List ℕ} {desks : ℕ} (good : Good d table desks) (past : List Turn) where
   abbrev tell : Store
@@ -63,23 +72,23 @@ module _ {d : ℕ} {table : List ℕ} {desks : ℕ} (good : Good d table desks) 
     unfolding classStore
     told-here = answered-here good (reached good past) (t .desk) (t .call) (length (t .list))
 
-    desk-there : properInsert d desks t ≡ true → (t .desk < desks) × (properCall d (t .call) ≡ true)
-    unfolding properInsert
-    desk-there p =
-        (ltb-true (t .desk) desks (and-left (ltb (t .desk) desks) (properCall d (t .call)) p), and-right (ltb (t .desk) desks) (properCall d (t .call)) p)
-
     told-served : t .desk < desks → tell past t .answer ≡ served
     told-served h = told-here ∙ not-given (leb desks (t .desk)) NoDesk served (lt-leb desks (t .desk) h)
 
     next-accepted : properInsert d desks t ≡ true → heldBy tell (t .desk) past < promised → accepted (tell past t .answer) ≡ true
     next-accepted p few =
-        let q = desk-there p in
+        let q = proper-parts d desks t p in
         ap accepted (told-served (q .0))
         ∙ serve-next d table (crowded s) (length (t .list)) (hides (s .marks) (t .desk)) (own s (t .desk)) (t .call) (q .1)
         (omega (arith, ap length (agrees good past (t .desk) (q .0) .rows)))
 
-    ten-given : numberOf (tell past t .answer) ≡ 10
-        → (properInsert d desks t ≡ true) × (promised ≤ heldBy tell (t .desk) past) × (heldBy tell (t .desk) past < mostHeld) × (usedBy tell desks past + owedBy tell desks past ≡ mostPlaces)
+    -- when demand 3 has refusal 10 given
+    abbrev NoPlace : Type 0
+    NoPlace =
+        (properInsert d desks t ≡ true) × (promised ≤ heldBy tell (t .desk) past) × (heldBy tell (t .desk) past < mostHeld)
+        × (usedBy tell desks past + owedBy tell desks past ≡ mostPlaces)
+
+    ten-given : numberOf (tell past t .answer) ≡ 10 → NoPlace
     unfolding properInsert decided crowded
     ten-given e =
         let p = skipped 10 (leb desks (t .desk)) NoDesk [] served (omega arith) (sym (ap numberOf told-here) ∙ e) in
@@ -92,11 +101,10 @@ module _ {d : ℕ} {table : List ℕ} {desks : ℕ} (good : Good d table desks) 
           omega (arith, eqb-true (s .used + owed s) mostPlaces (q .3), used-is good past, owed-is good past),
         )
 
-    given-ten : (properInsert d desks t ≡ true) × (promised ≤ heldBy tell (t .desk) past) × (heldBy tell (t .desk) past < mostHeld) × (usedBy tell desks past + owedBy tell desks past ≡ mostPlaces)
-        → numberOf (tell past t .answer) ≡ 10
+    given-ten : NoPlace → numberOf (tell past t .answer) ≡ 10
     unfolding crowded
     given-ten g =
-        let q = desk-there (g .0) in
+        let q = proper-parts d desks t (g .0) in
         let rows = ap length (agrees good past (t .desk) (q .0) .rows) in
         ap numberOf (told-served (q .0))
         ∙ ten-serve d table (crowded s) (length (t .list)) (hides (s .marks) (t .desk)) (own s (t .desk)) (t .call) (q .1) (omega (arith, g .1))
@@ -110,6 +118,13 @@ module _ {d : ℕ} {table : List ℕ} {desks : ℕ} (good : Good d table desks) 
     abbrev mine : (ℕ → Bool) → List ℕ → Answer
     mine hid rows = serve d table false (length (t .list)) hid rows (t .call)
 
+    abbrev mineAlone : Answer
+    mineAlone = mine (member (hiddenIn h)) (ownIn h)
+
+    -- and told of an answer
+    abbrev tellsAlone : Answer → Told
+    tellsAlone = telling d table (member (hiddenIn h)) (ownIn h) (t .call) (t .list)
+
     told-alone : numberOf (tell past t .answer) ≢ 10 → tell past t ≡ alone d table desks h t
     unfolding classStore alone listAfter accepted
     told-alone ne = go (leb desks (t .desk)) refl
@@ -118,21 +133,20 @@ module _ {d : ℕ} {table : List ℕ} {desks : ℕ} (good : Good d table desks) 
         go true e =
             ap (telling d table (hides (s .marks) (t .desk)) (own s (t .desk)) (t .call) (t .list))
             (told-here ∙ given (leb desks (t .desk)) NoDesk served e)
-            ∙ sym
-            (ap (telling d table (member (hiddenIn h)) (ownIn h) (t .call) (t .list)) (given (leb desks (t .desk)) NoDesk (mine (member (hiddenIn h)) (ownIn h)) e))
+            ∙ sym (ap tellsAlone (given (leb desks (t .desk)) NoDesk mineAlone e))
         go false e =
             let there = leb-false desks (t .desk) e in
             let g = agrees good past (t .desk) there in
+            let here = told-served there in
             let hid = hides (s .marks) (t .desk) in
             let same : (n : ℕ) → n < length table → hid n ≡ member (hiddenIn h) n = λ n l. g .marks n (omega (arith, good .right .small)) in
             ap (telling d table hid (own s (t .desk)) (t .call) (t .list))
-            (told-served there ∙ serve-but-ten d table (crowded s) (length (t .list)) hid (own s (t .desk)) (t .call) (λ q. ne (ap numberOf (told-served there) ∙ q)))
+            (here ∙ serve-but-ten d table (crowded s) (length (t .list)) hid (own s (t .desk)) (t .call) (λ q. ne (ap numberOf here ∙ q)))
             ∙ ap (λ (o : List ℕ). telling d table hid o (t .call) (t .list) (mine hid o)) (g .rows)
             ∙ ap (telling d table hid (ownIn h) (t .call) (t .list))
             (serve-same table hid (member (hiddenIn h)) (ownIn h) same d false (length (t .list)) (t .call))
-            ∙ telling-same table hid (member (hiddenIn h)) (ownIn h) same d (t .call) (t .list) (mine (member (hiddenIn h)) (ownIn h))
-            ∙ sym
-            (ap (telling d table (member (hiddenIn h)) (ownIn h) (t .call) (t .list)) (not-given (leb desks (t .desk)) NoDesk (mine (member (hiddenIn h)) (ownIn h)) e))
+            ∙ telling-same table hid (member (hiddenIn h)) (ownIn h) same d (t .call) (t .list) mineAlone
+            ∙ sym (ap tellsAlone (not-given (leb desks (t .desk)) NoDesk mineAlone e))
 
     ten-writes-nothing : numberOf (tell past t .answer) ≡ 10 → tell past t .list ≡ t .list
     unfolding classStore listAfter accepted

@@ -54,7 +54,12 @@ module _ {d : ℕ} {table : List ℕ} {desks : ℕ} (good : Good d table desks) 
 
   fresh : (k : ℕ) → Agrees (begunSheet d table desks) k []
   unfolding begunSheet freshSheet those hides ownIn hiddenIn member
-  fresh k = rw (parts-good good) record { rows = refl; marks = λ n h. ap (λ (x : ℕ). has x (n % wordBits)) (at-zeros allMarks (word k n)) ∙ has-empty (n % wordBits) }
+  fresh k =
+      rw (parts-good good)
+      record {
+        rows = refl;
+        marks = λ n h. ap (λ (x : ℕ). has x (n % wordBits)) (at-zeros allMarks (word k n)) ∙ has-empty (n % wordBits);
+      }
 
   -- ---- an accepted call
 

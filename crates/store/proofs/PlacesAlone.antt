@@ -1,4 +1,5 @@
--- A wrong store of the request, 'refusing an insert only when the 512 places are used, with no thought for places owed', does not meet demand 3. Assumes nothing.
+-- A wrong store of the request, 'refusing an insert only when the 512 places are used, with no thought for places owed', does not meet demand 3.
+-- Assumes nothing.
 use Prim.Native.Nat.{ℕ, zero, suc, _+_, _-_, _*_, _≤_, _<_}
 use mathlib.Core.Path.{_≡_, refl, sym, ap, _∙_}
 use mathlib.Core.Logic.{_≢_, inl, inr}
@@ -56,6 +57,9 @@ module _ {d : ℕ} {table : List ℕ} {desks : ℕ} {tell : Store} (begun : acce
   others j k zero ne past = refl
   others j k (suc n) ne past = rw (ne-eqb k j (λ e. ne (sym e))) (others j k n ne past)
 
+  others-held : (j k n : ℕ) → j ≢ k → (past : List Turn) → heldBy tell j (asked k n past) ≡ heldBy tell j past
+  others-held j k n ne past = ap (λ (l : List Call). length (ownIn l)) (others j k n ne past)
+
   module _ (nine : 9 ≤ desks) (wrong : (past : List Turn) (t : Turn) → numberOf (tell past t .answer) ≡ 10 → usedBy tell desks past ≡ mostPlaces)
     where
       -- while desk 8 has no rows, eight places are owed to it, so no insert is refused by 10
@@ -66,7 +70,12 @@ module _ {d : ℕ} {table : List ℕ} {desks : ℕ} {tell : Store} (begun : acce
           let owed = sum-part (λ j. promised - heldBy tell j past) desks 8 (omega arith) in
           let told = keeps .as-alone past (asking k) (λ e. omega (arith, wrong past (asking k) e, owed-is-kept begun keeps past)) in
           ap (λ (a : Told). accepted (a .answer)) told
-          ∙ rw (lt-leb desks k (omega arith), within-one d (good-parts d table desks begun .right .some-value), lt-leb mostHeld (heldBy tell k past) room, and-false (leb 8 (heldBy tell k past)))
+          ∙ rw (
+            lt-leb desks k (omega arith),
+            within-one d (good-parts d table desks begun .right .some-value),
+            lt-leb mostHeld (heldBy tell k past) room,
+            and-false (leb 8 (heldBy tell k past)),
+          )
 
       gets : (k n : ℕ) → k < 8 → (past : List Turn) → heldBy tell 8 past ≡ zero → heldBy tell k past + n ≤ mostHeld
           → heldBy tell k (asked k n past) ≡ heldBy tell k past + n
@@ -75,7 +84,7 @@ module _ {d : ℕ} {table : List ℕ} {desks : ℕ} {tell : Store} (begun : acce
       gets k (suc n) h past none room =
           let before = asked k n past in
           let ih = gets k n h past none (omega arith) in
-          let empty = ap (λ (l : List Call). length (ownIn l)) (others 8 k n (omega arith) past) in
+          let empty = others-held 8 k n (omega arith) past in
           let next = history-next begun keeps before k (Do (Insert (asRow 1))) [] (accepts before k h (omega arith) (omega arith)) in
           omega (arith, ap (λ (l : List Call). length (ownIn l)) next, length-append (ownIn (history tell k before)) (bits (asRow 1) ∷ []))
 
@@ -84,7 +93,7 @@ module _ {d : ℕ} {table : List ℕ} {desks : ℕ} {tell : Store} (begun : acce
       held-in zero h = (λ i l. absurd (omega arith), λ i l. refl)
       held-in (suc j) h =
           let before = held-in j (omega arith) in
-          let same : (i : ℕ) → i ≢ j → heldBy tell i (run (suc j)) ≡ heldBy tell i (run j) = λ i ne. ap (λ (l : List Call). length (ownIn l)) (others i j mostHeld ne (run j)) in
+          let same : (i : ℕ) → i ≢ j → heldBy tell i (run (suc j)) ≡ heldBy tell i (run j) = λ i ne. others-held i j mostHeld ne (run j) in
           let now = before .1 j (omega arith) in
           let mine = gets j mostHeld (omega arith) (run j) (before .1 8 (omega arith)) (omega arith) in (
             λ i l. elim (top-or-below j i l) [

@@ -1,5 +1,5 @@
--- Demand 3 is proved about `classStore`; this is the link to the code: any run of calls that the contracts of `begin` and `desk_call` admit tells each
--- turn what `classStore` tells it. They are the contracts that the prover made of the source. Assumes nothing.
+-- Demand 3 is proved about `classStore`; this is the link to the code: any run of calls that the contracts of `begin` and `desk_call` admit tells
+-- each turn what `classStore` tells it. They are the contracts that the prover made of the source. Assumes nothing.
 use Prim.Native.Nat.{ℕ}
 use mathlib.Core.Path.{_≡_, refl, ap, _∙_}
 use mathlib.Core.List.{List, [], _∷_}

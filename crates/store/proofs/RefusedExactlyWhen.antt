@@ -1,4 +1,5 @@
--- When `begin` and a desk's call are refused, with which number and which row (the request, 'Refusal numbers': 'Given exactly when'). Assumes nothing.
+-- When `begin` and a desk's call are refused, with which number and which row (the request, 'Refusal numbers': 'Given exactly when').
+-- Assumes nothing.
 use Prim.Native.Nat.{ℕ, zero, _<_}
 use mathlib.Core.Path.{_≡_, refl, ap, _∙_}
 use mathlib.Core.Logic.{_↔_, _≢_}

@@ -1,5 +1,5 @@
 -- The refusals in their order, as the code meets them, and what is handed back with each. Assumes nothing.
-use Prim.Native.Nat.{ℕ, zero, _+_, _-_, _<_}
+use Prim.Native.Nat.{ℕ, zero, _-_, _<_}
 use mathlib.Core.Path.{_≡_, refl, sym, ap, subst, _∙_}
 use mathlib.Core.Logic.{inl, inr}
 use mathlib.Core.Bool.{Bool, true, false, cond, not, _&&_, _||_, true≢false, false≢true}
@@ -108,6 +108,10 @@ unfolding listAfter
 silent-refusal front list a e = rw e refl
 
 module _ (d : ℕ) (table : List ℕ) (s : Sheet) (k : ℕ) (c : Call) (old : List ℕ) where
+  -- what the desk is served, once no refusal of 1 to 5 is given
+  abbrev here : Answer
+  here = serve d table (crowded s) (length old) (hides (s .marks) k) (own s k) c
+
   -- a refusal leaves the list
   refused : (a : Answer) → answered d table s k c (length old) ≡ a → accepted a ≡ false → Responded d table s k c old a old
   refused a e n = record {
@@ -122,14 +126,12 @@ module _ (d : ℕ) (table : List ℕ) (s : Sheet) (k : ℕ) (c : Call) (old : Li
   unfolding answered
   table-refused e =
       refused (decided Refused (tableCases mostRows d table) Done)
-      (stopped (tableCases mostRows d table) (sheetCases d table s k) (serve d table (crowded s) (length old) (hides (s .marks) k) (own s k) c) e)
-      e
+      (stopped (tableCases mostRows d table) (sheetCases d table s k) here e) e
 
   module _ (right : accepted (decided Refused (tableCases mostRows d table) Done) ≡ true) where
-    on : answered d table s k c (length old) ≡ decided Refused (sheetCases d table s k) (serve d table (crowded s) (length old) (hides (s .marks) k) (own s k) c)
+    on : answered d table s k c (length old) ≡ decided Refused (sheetCases d table s k) here
     unfolding answered
-    on =
-        went-on (tableCases mostRows d table) (sheetCases d table s k) (serve d table (crowded s) (length old) (hides (s .marks) k) (own s k) c) right
+    on = went-on (tableCases mostRows d table) (sheetCases d table s k) here right
 
     -- refusal 3
     pub sheet-refused : sound s ≡ false → Responded d table s k c old (Refused Unsound) old
@@ -138,8 +140,7 @@ module _ (d : ℕ) (table : List ℕ) (s : Sheet) (k : ℕ) (c : Call) (old : Li
 
     module _ (whole : sound s ≡ true) where
       on-desk : answered d table s k c (length old)
-          ≡ decided Refused (deskCases d (length table) (s .d) (s .rows) (s .desks) k)
-          (serve d table (crowded s) (length old) (hides (s .marks) k) (own s k) c)
+          ≡ decided Refused (deskCases d (length table) (s .d) (s .rows) (s .desks) k) here
       unfolding sheetCases decided
       on-desk = on ∙ (rw whole refl)
 
@@ -148,8 +149,7 @@ module _ (d : ℕ) (table : List ℕ) (s : Sheet) (k : ℕ) (c : Call) (old : Li
           → Responded d table s k c old (decided Refused (deskCases d (length table) (s .d) (s .rows) (s .desks) k) Done) old
       desk-refused e =
           let cases = deskCases d (length table) (s .d) (s .rows) (s .desks) k in
-          refused (decided Refused cases Done)
-          (on-desk ∙ stopped cases [] (serve d table (crowded s) (length old) (hides (s .marks) k) (own s k) c) e) e
+          refused (decided Refused cases Done) (on-desk ∙ stopped cases [] here e) e
 
       -- refusals 6 to 12, and the answers
       call-served : accepted (decided Refused (deskCases d (length table) (s .d) (s .rows) (s .desks) k) Done) ≡ true → (a : Answer) (list : List ℕ)
@@ -157,12 +157,9 @@ module _ (d : ℕ) (table : List ℕ) (s : Sheet) (k : ℕ) (c : Call) (old : Li
           → (accepted a ≡ true → Possible s k c) → Responded d table s k c old a list
       unfolding decided
       call-served known a list served can =
-          let here : answered d table s k c (length old) ≡ a
-          = on-desk
-          ∙ went-on (deskCases d (length table) (s .d) (s .rows) (s .desks) k) []
-          (serve d table (crowded s) (length old) (hides (s .marks) k) (own s k) c) known
-          ∙ sym (served .answer-is) in
-          record { answer-is = sym here; list-is = rw here (served .list-is); room = can }
+          let is : answered d table s k c (length old) ≡ a
+          = on-desk ∙ went-on (deskCases d (length table) (s .d) (s .rows) (s .desks) k) [] here known ∙ sym (served .answer-is) in
+          record { answer-is = sym is; list-is = rw is (served .list-is); room = can }
 
   -- ---- and the sheet
 

@@ -74,5 +74,6 @@ module _ {d : ℕ} {table : List ℕ} {s : Sheet} {counts : List ℕ} {k : ℕ} 
       → Replied d (rowsOf (take (m * rowWords) words)) (at counts k) q old r list → Served d table s k c old r list
   unfolding serve written
   served-question old c q e m words seen r list R =
-      let told : Replied d (view table (hides (s .marks) k) (own s k)) (length (own s k)) q old r list = rw (sym (view-words words seen), sym mine) R in
+      let told : Replied d (view table (hides (s .marks) k) (own s k)) (length (own s k)) q old r list =
+      rw (sym (view-words words seen), sym mine) R in
       rw e record { answer-is = told .answer-is; list-is = told .list-is }

@@ -1,4 +1,5 @@
--- Every sheet of a run is sound, whole, and keeps the d, T and number of desks that it began with; where begin is refused, its sheet isn't sound. Assumes nothing.
+-- Every sheet of a run is sound, whole, and keeps the d, T and number of desks that it began with;
+-- where begin is refused, its sheet isn't sound. Assumes nothing.
 use Prim.Native.Nat.{ℕ, zero, suc, _<_}
 use mathlib.Core.Path.{_≡_, refl, sym, ap, _∙_}
 use mathlib.Core.Bool.{Bool, true, false, cond}
@@ -54,7 +55,9 @@ module _ {d : ℕ} {table : List ℕ} {desks : ℕ} (good : Good d table desks) 
       rw (parts-good good)
       record {
         whole = whole-fresh d (length table) desks;
-        stays-sound = sound-fresh d (length table) desks (good .right .some-value) (good .right .values) (good .right .small) (good .some-desk) (good .few-desks);
+        stays-sound =
+            sound-fresh d (length table) desks (good .right .some-value) (good .right .values) (good .right .small)
+            (good .some-desk) (good .few-desks);
         same-d = refl;
         same-rows = refl;
         same-desks = refl;

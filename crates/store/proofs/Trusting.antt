@@ -53,7 +53,9 @@ module _ (d : ℕ) (table : List ℕ) (s : Sheet) (counts : List ℕ) (k : ℕ) 
         promise = S .promise;
         share = S .share k there;
         mine = T .counted k (omega arith) ∙ sym (length-own s k);
-        owes = sum-ext (λ j. promised - at counts j) (λ j. promised - held s j) (s .desks) (λ j h. ap (λ (n : ℕ). promised - n) (T .counted j (omega arith)));
+        owes =
+            sum-ext (λ j. promised - at counts j) (λ j. promised - held s j) (s .desks)
+            (λ j h. ap (λ (n : ℕ). promised - n) (T .counted j (omega arith)));
       }
 
   -- every row of the desk's view is one of the column

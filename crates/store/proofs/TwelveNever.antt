@@ -26,7 +26,8 @@ use Rattle.store.specs.declared.Call.{Call}
 use Rattle.store.specs.declared.Call.the-variants.{Do, Ask}
 use Rattle.store.specs.declared.Change.the-variants.{Delete, Insert, Reset}
 use Rattle.store.specs.declared.Question.the-variants.{Look, Count, Distinct}
-use Rattle.refusals.specs.declared.Refusal.the-variants.{TooLarge, Unsound, OtherTable, NoDesk, NoRow, HiddenAlready, BadSet, Full, NoRoom, ShortList, LongView}
+use Rattle.refusals.specs.declared.Refusal.the-variants.{TooLarge, Unsound, OtherTable, NoDesk}
+use Rattle.refusals.specs.declared.Refusal.the-variants.{NoRow, HiddenAlready, BadSet, Full, NoRoom, ShortList, LongView}
 use Rattle.store.specs.declared.Answer.{Answer}
 use Rattle.store.specs.declared.Answer.the-variants.{Done, Seen, Listed}
 use Rattle.refusals.specs.Refusals.{number}
@@ -50,8 +51,8 @@ module _ (d : ℕ) (table : List ℕ) (full : Bool) (places : ℕ) (hid : ℕ �
   not-served : (c : Call) → numberOf (serve d table full places hid own c) ≢ 12
   unfolding serve decided
   not-served (Do (Delete (Table n))) e =
-      omega
-      (arith, skipped 12 (hid n) HiddenAlready [] Done (omega arith) (skipped 12 (leb (length table) n) NoRow ((hid n gives HiddenAlready) ∷ []) Done (omega arith) e .1) .1)
+      let one = skipped 12 (leb (length table) n) NoRow ((hid n gives HiddenAlready) ∷ []) Done (omega arith) e in
+      omega (arith, skipped 12 (hid n) HiddenAlready [] Done (omega arith) (one .1) .1)
   not-served (Do (Delete (Own n))) e = omega (arith, skipped 12 (leb (length own) n) NoRow [] Done (omega arith) e .1)
   not-served (Do (Insert row)) e =
       let room : List Case = ((leb promised (length own) && full) gives NoRoom) ∷ [] in

@@ -1,5 +1,5 @@
 -- The wrong stores that the request names do not meet demand 3: what any store that meets it has to tell instead. Assumes nothing.
-use Prim.Native.Nat.{ℕ, zero, suc, _+_, _-_, _^_, _≤_, _<_}
+use Prim.Native.Nat.{ℕ, zero, suc, _+_, _^_, _≤_, _<_}
 use mathlib.Core.Path.{_≡_, refl, sym, ap, ap₂, _∙_}
 use mathlib.Core.Logic.{_≢_, inl, inr}
 use mathlib.Core.Bool.{Bool, true, false, not, _||_}
@@ -9,15 +9,15 @@ use native.Mathlib.Omega.{arith}
 use lib.Dec.{eqb, leb, ltb}
 use lib.Pow.{pow-lt}
 use lib.ListN.{length, take, drop, length-append, length-take, length-drop}
-use borrow.Author.Tests.{lt-ltb, ltb-true, lt-leb, leb-false, eq-eqb, ne-eqb}
+use borrow.Author.Tests.{lt-ltb, lt-leb, leb-false, eq-eqb, ne-eqb}
 use Rattle.sets.specs.Rows.{width, bits, asRow}
 use Rattle.sets.proofs.RowValues.{row-bits}
 use Rattle.sets.specs.Limits.{mostHeld, mostPlaces, promised}
 use Rattle.theory.specs.Pairings.{at}
 use Rattle.sets.specs.Sets.{below, within}
-use Rattle.sets.proofs.Bools.{and-left, and-right, and-both, not-both}
+use Rattle.sets.proofs.Bools.{and-both, not-both}
 use Rattle.sheet.specs.Upto.{countTo, those}
-use Rattle.sheet.proofs.UptoLaws.{count-yes, count-no, count-ext, length-those, top-or-below, sum-ext}
+use Rattle.sheet.proofs.UptoLaws.{count-yes, count-no, count-ext, length-those, top-or-below}
 use Rattle.sheet.proofs.SoundParts.{sound-parts}
 use Rattle.store.specs.declared.Target.the-variants.{Table, Own}
 use Rattle.store.specs.declared.Call.{Call}
@@ -31,13 +31,14 @@ use Rattle.refusals.specs.Cases.{_gives_, decided}
 use Rattle.store.specs.Answers.{accepted, numberOf}
 use Rattle.store.specs.Desks.{view, serve, Told}
 use Rattle.store.specs.Calls.{begunAnswer}
-use Rattle.store.specs.Promise.{Turn, Store, hiddenIn, ownIn, member, alone, history, heldBy, usedBy, owedBy, properCall, properInsert, Demand3, sheetOn, classStore}
+use Rattle.store.specs.Promise.{Turn, Store, hiddenIn, ownIn, member, alone, history, heldBy, usedBy, owedBy}
+use Rattle.store.specs.Promise.{properCall, properInsert, Demand3, sheetOn, classStore}
 use Rattle.store.proofs.Judging.{good-parts, passed, not-given}
 use Rattle.store.proofs.SheetRuns.{reached}
 use Rattle.store.proofs.DeskRuns.{used-is, owed-is}
 use Rattle.store.proofs.Told.{ten-is, serve-free}
-use Rattle.store.proofs.ClassKeeps.{class-keeps}
-use Rattle.store.proofs.OnlyStore.{same-history}
+use Rattle.store.proofs.ClassKeeps.{proper-parts, class-keeps}
+use Rattle.store.proofs.OnlyStore.{used-alike, owed-alike, same-history}
 
 -- ---- how many rows a view has
 
@@ -78,9 +79,7 @@ module _ {d : ℕ} {table : List ℕ} {desks : ℕ} {tell : Store} (begun : acce
 
   -- what is no insert is never refused by 10
   told-alone : (past : List Turn) (t : Turn) → properCall d (t .call) ≡ false → tell past t ≡ alone d table desks (history tell (t .desk) past) t
-  unfolding properInsert
-  told-alone past t off =
-      keeps .as-alone past t (λ e. not-both (and-right (ltb (t .desk) desks) (properCall d (t .call)) (keeps .no-room past t .0 e .0)) off)
+  told-alone past t off = keeps .as-alone past t (λ e. not-both (proper-parts d desks t (keeps .no-room past t .0 e .0) .1) off)
 
   abbrev served : ℕ → Call → List ℕ → List Turn → Answer
   served k c list past = serve d table false (length list) (member (hiddenIn (history tell k past))) (ownIn (history tell k past)) c
@@ -98,7 +97,8 @@ module _ {d : ℕ} {table : List ℕ} {desks : ℕ} {tell : Store} (begun : acce
       → (k < desks) × (accepted (served k c list past) ≡ true)
   unfolding alone decided
   accepted-alone past k c list off t =
-      let p = passed (leb desks k) NoDesk [] (served k c list past) (sym (ap (λ (a : Told). accepted (a .answer)) (told-alone past (turn k c list) off)) ∙ t) in
+      let same = ap (λ (a : Told). accepted (a .answer)) (told-alone past (turn k c list) off) in
+      let p = passed (leb desks k) NoDesk [] (served k c list past) (sym same ∙ t) in
       (leb-false desks k (p .0), p .1)
 
   pub history-next : (past : List Turn) (k : ℕ) (c : Call) (list : List ℕ) → accepted (tell past (turn k c list) .answer) ≡ true
@@ -113,8 +113,9 @@ module _ {d : ℕ} {table : List ℕ} {desks : ℕ} {tell : Store} (begun : acce
   no-store-always-refuses refuses =
       let good = good-parts d table desks begun in
       let t = turn zero (Do (Insert (asRow 1))) [] in
-      not-both
-      (keeps .next [] t (and-both (ltb zero desks) (within d (bits (asRow 1))) (lt-ltb zero desks (good .some-desk)) (within-one d (good .right .some-value))) (omega arith)) (refuses [] t)
+      let there = lt-ltb zero desks (good .some-desk) in
+      let proper = and-both (ltb zero desks) (within d (bits (asRow 1))) there (within-one d (good .right .some-value)) in
+      not-both (keeps .next [] t proper (omega arith)) (refuses [] t)
 
   -- ---- a made-up count: the rows in the view, and its inserts less its removals since the last reset
 
@@ -140,10 +141,11 @@ module _ {d : ℕ} {table : List ℕ} {desks : ℕ} {tell : Store} (begun : acce
   one-row-less past k n list t =
       let h = history tell k past in
       let q = delete-has past k n list t in
-      let fewer = one-less (λ i. not (member (hiddenIn h) i)) (λ i. not (eqb n i || member (hiddenIn h) i)) (length table) n (q .1) (rw (q .2)) (rw (eq-eqb n n refl))
+      let hid = member (hiddenIn h) in
+      let fewer = one-less (λ i. not (hid i)) (λ i. not (eqb n i || hid i)) (length table) n (q .1) (rw (q .2)) (rw (eq-eqb n n refl))
       (λ i l ne. rw (ne-eqb n i (λ e. ne (sym e)))) in
       rw (history-next past k (Do (Delete (Table n))) list t)
-      (omega (arith, length-view table (member (hiddenIn h)) (ownIn h), length-view table (λ i. eqb n i || member (hiddenIn h) i) (ownIn h)))
+      (omega (arith, length-view table hid (ownIn h), length-view table (λ i. eqb n i || hid i) (ownIn h)))
 
   -- after an accepted table delete, whatever came before, the desk counts one row less, and the row can't be deleted again
   pub no-delete-hides-nothing : (past : List Turn) (k n : ℕ) (list : List ℕ)
@@ -166,7 +168,8 @@ module _ {d : ℕ} {table : List ℕ} {desks : ℕ} {tell : Store} (begun : acce
   pub no-own-delete-takes-nothing : (past : List Turn) (k n : ℕ) (list : List ℕ)
       → let t = turn k (Do (Delete (Own n))) list in accepted (tell past t .answer) ≡ true
       → (list′ : List ℕ)
-      → (r m : ℕ) × (tell past (turn k (Ask Count) list′) .answer ≡ Counted (suc r) (suc m)) × (tell (t ∷ past) (turn k (Ask Count) list′) .answer ≡ Counted r m)
+      → (r m : ℕ) × (tell past (turn k (Ask Count) list′) .answer ≡ Counted (suc r) (suc m))
+      × (tell (t ∷ past) (turn k (Ask Count) list′) .answer ≡ Counted r m)
   unfolding serve properCall hiddenIn ownIn
   no-own-delete-takes-nothing past k n list t list′ =
       let after = turn k (Do (Delete (Own n))) list ∷ past in
@@ -178,7 +181,8 @@ module _ {d : ℕ} {table : List ℕ} {desks : ℕ} {tell : Store} (begun : acce
       let held : length (ownIn h) ≡ suc (length rest) =
       omega (arith, length-append (take n (ownIn h)) (drop (suc n) (ownIn h)), length-take n (ownIn h), length-drop (suc n) (ownIn h)) in
       let hid = member (hiddenIn h) in
-      let rows : length (view table hid (ownIn h)) ≡ suc (length (view table hid rest)) = omega (arith, length-view table hid (ownIn h), length-view table hid rest) in (
+      let rows : length (view table hid (ownIn h)) ≡ suc (length (view table hid rest)) =
+      omega (arith, length-view table hid (ownIn h), length-view table hid rest) in (
         length (view table hid rest),
         length rest,
         no-made-up-count past k list′ (p .0) ∙ ap₂ Counted rows held,
@@ -194,12 +198,14 @@ module _ {d : ℕ} {table : List ℕ} {desks : ℕ} {tell : Store} (begun : acce
   delete-done past k n list h l e = answered-alone past k (Do (Delete (Table n))) list h refl ∙ rw (lt-leb (length table) n l, e)
 
   pub no-delete-honours-its-first-call-only : (past : List Turn) (k n m : ℕ) (list list′ : List ℕ) → let t = turn k (Do (Delete (Table n))) list in
-      accepted (tell past t .answer) ≡ true → m < length table → m ≢ n → member (hiddenIn (history tell k past)) m ≡ false → let t′ = turn k (Do (Delete (Table m))) list′ in
+      accepted (tell past t .answer) ≡ true → m < length table → m ≢ n → member (hiddenIn (history tell k past)) m ≡ false
+      → let t′ = turn k (Do (Delete (Table m))) list′ in
       (tell (t ∷ past) t′ .answer ≡ Done) × (length (seen k past) ≡ suc (suc (length (seen k (t′ ∷ t ∷ past)))))
   unfolding hiddenIn member accepted
   no-delete-honours-its-first-call-only past k n m list list′ t l ne e =
       let after = turn k (Do (Delete (Table n))) list ∷ past in
-      let still : member (hiddenIn (history tell k after)) m ≡ false = rw (history-next past k (Do (Delete (Table n))) list t, ne-eqb n m (λ q. ne (sym q))) e in
+      let still : member (hiddenIn (history tell k after)) m ≡ false =
+      rw (history-next past k (Do (Delete (Table n))) list t, ne-eqb n m (λ q. ne (sym q))) e in
       let done = delete-done after k m list′ (delete-has past k n list t .0) l still in
       (done, one-row-less past k n list t ∙ ap suc (one-row-less after k m list′ (ap accepted done)))
 
@@ -216,23 +222,24 @@ module _ {d : ℕ} {table : List ℕ} {desks : ℕ} {tell : Store} (begun : acce
 
   pub no-freed-place-is-lost : (past : List Turn) (t : Turn) → properInsert d desks t ≡ true → heldBy tell (t .desk) past < mostHeld
       → usedBy tell desks past + owedBy tell desks past < mostPlaces → accepted (tell past t .answer) ≡ true
-  unfolding properInsert alone decided
+  unfolding alone decided
   no-freed-place-is-lost past t p few room =
       let not-ten : numberOf (tell past t .answer) ≢ 10 = λ e. absurd (omega (arith, keeps .no-room past t .0 e .3)) in
       let h = history tell (t .desk) past in
+      let q = proper-parts d desks t p in
       ap (λ (a : Told). accepted (a .answer)) (keeps .as-alone past t not-ten)
-      ∙ (rw (lt-leb desks (t .desk) (ltb-true (t .desk) desks (and-left (ltb (t .desk) desks) (properCall d (t .call)) p)))
-      (serve-free d table false (length (t .list)) (member (hiddenIn h)) (ownIn h) (t .call) (and-right (ltb (t .desk) desks) (properCall d (t .call)) p) few refl))
+      ∙ (rw (lt-leb desks (t .desk) (q .0))
+      (serve-free d table false (length (t .list)) (member (hiddenIn h)) (ownIn h) (t .call) (q .1) few refl))
 
   pub owed-is-kept : (past : List Turn) → usedBy tell desks past + owedBy tell desks past ≤ mostPlaces
   owed-is-kept past =
       let good = good-parts d table desks begun in
       let ours = classStore d table desks in
-      let held : (k : ℕ) → heldBy tell k past ≡ heldBy ours k past = λ k. ap (λ (h : List Call). length (ownIn h)) (same-history keeps (class-keeps d table desks begun) past k) in
+      let same = same-history keeps (class-keeps d table desks begun) past in
       omega (
         arith,
-        sum-ext (λ k. heldBy tell k past) (λ k. heldBy ours k past) desks (λ k h. held k),
-        sum-ext (λ k. promised - heldBy tell k past) (λ k. promised - heldBy ours k past) desks (λ k h. ap (λ (x : ℕ). promised - x) (held k)),
+        used-alike tell ours past same desks,
+        owed-alike tell ours past same desks,
         used-is good past,
         owed-is good past,
         sound-parts (sheetOn d table desks past) (reached good past .stays-sound) .promise,

@@ -6,15 +6,19 @@ use Rattle.sets.specs.Rows.{rowsOf}
 use Rattle.walks.proofs.Walk.{_≡_, refl, ap, ℕ, _<_, _^_, [], _∷_, List, length, URA, fullShare, named, w64, Val, vint, vptr}
 use Rattle.walks.proofs.Walk.{SProp, ent, sep, emp, via, fst∗, id⊢, GName, Lft, Share, Fml, ftrue, flft, fat, fobs, fbor}
 use Rattle.walks.proofs.Walk.{Memory, Routine, Heap, Calls, Loops, WpFn, Tables, Atoms, sem, Fun, fact, givenOf, tables, tablesOf}
-use Rattle.walks.proofs.Walk.{Given, Item, ‵, raw, _⊛_, ⋆, some, later, _$_, _∵_, !, qed, by, move, keep, drop, use1, use2, use3, split, join, pick, rewrite}
-use Rattle.walks.proofs.Walk.{fsplit, fsplit3, fjoin, fjoin3, feqL, feqI, suffices, frame, await, done, look, look-raw, look-in, init, store-raw, forget}
+use Rattle.walks.proofs.Walk.{Given, Item, ‵, raw, _⊛_, ⋆, some, later, _$_, _∵_, !, qed, by}
+use Rattle.walks.proofs.Walk.{move, keep, drop, use1, use2, use3, split, join, pick, rewrite}
+use Rattle.walks.proofs.Walk.{fsplit, fsplit3, fjoin, fjoin3, feqL, feqI, suffices, frame, await, done}
+use Rattle.walks.proofs.Walk.{look, look-raw, look-in, init, store-raw, forget}
 use Rattle.walks.proofs.Walk.{stop, hop, fld, from, load, addr, of-opd, and-then, no-more, assigns, land, returns, enter, agg, whole, sub}
 use Rattle.walks.proofs.Walk.{alloc1, alloc0, params1, pass1, pass0, free1, free0, Body, FmC, fmOf, WpFn-mono, owns, Is, shows, mem}
 use Rattle.walks.proofs.Walk.{uint-vals, uint-tells, uint-makes, usize, u64, RefT, MutRef, ptr-vals, mut-tells, sliceVal, ShrSlice, MutSlice, finally}
-use Rattle.walks.proofs.Walk.{slice-vals, shr-slice-tells, mut-slice-tells, shr-slice-lawful, mut-slice-lawful, shr-slice-copy, plain, only, opens, closes}
-use Rattle.walks.proofs.Walk.{owned, peeks, heard, nothing, spelt, Contract, Triple, calls-at, ensured, lasts, Vals, onEntry, Meets, tripleOf, entered, cited}
-use Rattle.walks.proofs.Walk.{says, Stays, stay-ref, stay-none, stay-none-slice, gave-slice, walkOf, AllGo, goes-none, goes-none-slice, goes-gave-slice}
-use Rattle.walks.proofs.Walk.{goes-ref, Walks, ends-at, walked, walk-meets, yes}
+use Rattle.walks.proofs.Walk.{slice-vals, shr-slice-tells, mut-slice-tells, shr-slice-lawful, mut-slice-lawful, shr-slice-copy}
+use Rattle.walks.proofs.Walk.{plain, only, opens, closes}
+use Rattle.walks.proofs.Walk.{owned, peeks, heard, nothing, spelt, Contract, Triple, calls-at, ensured, lasts}
+use Rattle.walks.proofs.Walk.{Vals, onEntry, Meets, tripleOf, entered, cited}
+use Rattle.walks.proofs.Walk.{says, Stays, stay-ref, stay-none, stay-none-slice, gave-slice, walkOf}
+use Rattle.walks.proofs.Walk.{AllGo, goes-none, goes-none-slice, goes-gave-slice, goes-ref, Walks, ends-at, walked, walk-meets, yes}
 use denote.Struct.Laws as struct
 use Rattle.sheet.specs.declared.Sheet.{Sheet}
 use Rattle.sheet.proofs.Sheet as sheets

@@ -28,8 +28,10 @@ same-length c = search needs
 
 returns-2 : tie.Need-returns-2
 returns-2 c =
-    let call = sym (c .before .before .before .before .before .before .before .before .before .before .before .before .before .before .heard .ensures) ∙ c .before .before .before .before .before .before .before .before .before .before .before .before .asked .given .1 in
-    let o = c .before .before .before .carry-out .ensures in
+    let done = c .before .before .before in
+    let known = done .before .before .before .before .before .before .before .before .before in
+    let call = sym (known .before .before .heard .ensures) ∙ known .asked .given .1 in
+    let o = done .carry-out .ensures in
     (rw call (λ i. record { told = (c .tell .ensures ∙ ap plainOf (o .answer-is)) i; sheet = o .sheet-is i }), rw call (o .list-is))
 
 pub foliokettle-call-spec : {M : Type 1} → statement M

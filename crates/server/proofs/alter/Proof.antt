@@ -4,15 +4,19 @@
 use Rattle.walks.proofs.Walk.{_≡_, refl, ap, ℕ, _<_, _^_, [], _∷_, List, length, URA, fullShare, named, w64, Val, vint, vptr}
 use Rattle.walks.proofs.Walk.{SProp, ent, sep, emp, via, fst∗, id⊢, GName, Lft, Share, Fml, ftrue, flft, fat, fobs, fbor}
 use Rattle.walks.proofs.Walk.{Memory, Routine, Heap, Calls, Loops, WpFn, Tables, Atoms, sem, Fun, fact, givenOf, tables, tablesOf}
-use Rattle.walks.proofs.Walk.{Given, Item, ‵, raw, _⊛_, ⋆, some, later, _$_, _∵_, !, qed, by, move, keep, drop, use1, use2, use3, split, join, pick, rewrite}
-use Rattle.walks.proofs.Walk.{fsplit, fsplit3, fjoin, fjoin3, feqL, feqI, suffices, frame, await, done, look, look-raw, look-in, init, store-raw, forget}
+use Rattle.walks.proofs.Walk.{Given, Item, ‵, raw, _⊛_, ⋆, some, later, _$_, _∵_, !, qed, by}
+use Rattle.walks.proofs.Walk.{move, keep, drop, use1, use2, use3, split, join, pick, rewrite}
+use Rattle.walks.proofs.Walk.{fsplit, fsplit3, fjoin, fjoin3, feqL, feqI, suffices, frame, await, done}
+use Rattle.walks.proofs.Walk.{look, look-raw, look-in, init, store-raw, forget}
 use Rattle.walks.proofs.Walk.{stop, hop, fld, from, load, addr, of-opd, and-then, no-more, assigns, land, returns, enter, agg, whole, sub}
 use Rattle.walks.proofs.Walk.{alloc1, alloc0, params1, pass1, pass0, free1, free0, Body, FmC, fmOf, WpFn-mono, owns, Is, shows, mem}
 use Rattle.walks.proofs.Walk.{uint-vals, uint-tells, uint-makes, usize, u64, RefT, MutRef, ptr-vals, mut-tells, ShrSlice, MutSlice, finally}
-use Rattle.walks.proofs.Walk.{slice-vals, shr-slice-tells, mut-slice-tells, shr-slice-lawful, mut-slice-lawful, shr-slice-copy, plain, only, opens, closes}
-use Rattle.walks.proofs.Walk.{owned, peeks, heard, nothing, spelt, Contract, Triple, calls-at, ensured, lasts, Vals, onEntry, Meets, tripleOf, entered, cited}
-use Rattle.walks.proofs.Walk.{says, Stays, stay-ref, stay-none, stay-none-slice, gave-slice, walkOf, AllGo, goes-none, goes-none-slice, goes-gave-slice}
-use Rattle.walks.proofs.Walk.{goes-ref, Walks, ends-at, walked, walk-meets, yes}
+use Rattle.walks.proofs.Walk.{slice-vals, shr-slice-tells, mut-slice-tells, shr-slice-lawful, mut-slice-lawful, shr-slice-copy}
+use Rattle.walks.proofs.Walk.{plain, only, opens, closes}
+use Rattle.walks.proofs.Walk.{owned, peeks, heard, nothing, spelt, Contract, Triple, calls-at, ensured, lasts}
+use Rattle.walks.proofs.Walk.{Vals, onEntry, Meets, tripleOf, entered, cited}
+use Rattle.walks.proofs.Walk.{says, Stays, stay-ref, stay-none, stay-none-slice, gave-slice, walkOf}
+use Rattle.walks.proofs.Walk.{AllGo, goes-none, goes-none-slice, goes-gave-slice, goes-ref, Walks, ends-at, walked, walk-meets, yes}
 use denote.Struct.Laws as struct
 use denote.Enum.Laws as enum
 use Rattle.sets.specs.Rows.{rowsOf}
@@ -32,7 +36,8 @@ use Rattle.store.proofs.desk_call as desk-call
 use Rattle.store.proofs.desk_call.Symbol as desk-call-def
 use Rattle.store.proofs.desk_call.Symbol.{name as #desk-call}
 use Rattle.store.proofs.desk_call.Met as desk-call-thm
-use Rattle.server.proofs.Passing.{sheet-value, sheet-values, call-value, answer-value, answer-values, slice-value, Others, OtherValues, values-of}
+use Rattle.server.proofs.Passing.{sheet-value, sheet-values, call-value, answer-value, answer-values, slice-value}
+use Rattle.server.proofs.Passing.{Others, OtherValues, values-of}
 use Rattle.server.proofs.alter.Key.{name as #alter}
 use Rattle.server.proofs.alter as alter
 use Rattle.server.proofs.alter.Statement as stated
@@ -132,7 +137,8 @@ module _ {M : Type 1} (𝓤 : URA M) (H : Heap 𝓤) (A : Atoms 𝓤) (W : Given
   -- what `desk_call` ensures
   abbrev Said : Reply → List ℕ → Type 0
   Said reply last =
-      (reply ≡ replied d (rowsOf (table .now)) before desk call (length (list .now))) × (last ≡ told d (rowsOf (table .now)) before desk call (list .now) .list)
+      (reply ≡ replied d (rowsOf (table .now)) before desk call (length (list .now)))
+      × (last ≡ told d (rowsOf (table .now)) before desk call (list .now) .list)
 
   -- what is left when the borrow is closed
   abbrev Left : Reply → List ℕ → List (Item 𝓤)
@@ -266,4 +272,5 @@ alter-spec 𝓤 H 𝓜 𝓖 𝓡 =
     entered 𝓤 H (tripleOf 𝓤 H (𝓖 .A) alter.signature (alter.spec 𝓤 H (𝓖 .A) (𝓜 .mem) (𝓡 .run)))
     (tables 𝓤 H 𝓜 𝓡 code.env .C) (tables 𝓤 H 𝓜 𝓡 code.env .Λ) #alter code.function (code.unfolded 𝓤 H 𝓜 𝓡)
     (meets 𝓤 H (𝓖 .A) (givenOf 𝓤 H 𝓜 𝓖) (𝓜 .mem) (𝓡 .run) (tablesOf 𝓤 H 𝓜 (tables 𝓤 H 𝓜 𝓡 code.env))
-    (cited 𝓤 H (DeskCall 𝓤 H (𝓖 .A) (𝓜 .mem) (𝓡 .run)) 𝓜 𝓡 code.env #desk-call desk-call-def.routine code.calls-store·desk-call (desk-call-thm.met 𝓤 H 𝓜 𝓖 𝓡)))
+    (cited 𝓤 H (DeskCall 𝓤 H (𝓖 .A) (𝓜 .mem) (𝓡 .run)) 𝓜 𝓡 code.env #desk-call desk-call-def.routine
+    code.calls-store·desk-call (desk-call-thm.met 𝓤 H 𝓜 𝓖 𝓡)))

@@ -4,8 +4,10 @@
 use Rattle.walks.proofs.Walk.{_≡_, refl, ap, ℕ, _<_, _^_, [], _∷_, List, length, URA, fullShare, named, w64, Val, vint, vptr}
 use Rattle.walks.proofs.Walk.{SProp, ent, sep, emp, via, fst∗, id⊢, GName, Lft, Share, Fml, ftrue, fsep, flft, fat, flent}
 use Rattle.walks.proofs.Walk.{Memory, Routine, Heap, Calls, Loops, WpFn, Tables, Atoms, sem, Fun, fact, givenOf, tables, tablesOf}
-use Rattle.walks.proofs.Walk.{Given, Item, ‵, raw, _⊛_, ⋆, some, later, _$_, _∵_, !, qed, by, move, keep, drop, use1, use2, use3, split, join, pick, rewrite}
-use Rattle.walks.proofs.Walk.{fsplit, fjoin, feqL, suffices, frame, await, done, look, look-in, init, forget, lft-new, lft-end, lends-ref, ref-back, cellAt}
+use Rattle.walks.proofs.Walk.{Given, Item, ‵, raw, _⊛_, ⋆, some, later, _$_, _∵_, !, qed, by}
+use Rattle.walks.proofs.Walk.{move, keep, drop, use1, use2, use3, split, join, pick, rewrite}
+use Rattle.walks.proofs.Walk.{fsplit, fjoin, feqL, suffices, frame, await, done, look, look-in, init, forget}
+use Rattle.walks.proofs.Walk.{lft-new, lft-end, lends-ref, ref-back, cellAt}
 use Rattle.walks.proofs.Walk.{stop, hop, fld, from, load, addr, of-opd, and-then, no-more, assigns, land, returns, enter, agg, whole, sub}
 use Rattle.walks.proofs.Walk.{alloc1, alloc0, params1, pass1, pass0, free1, free0, Body, FmC, fmOf, WpFn-mono, owns, Is, shows, mem}
 use Rattle.walks.proofs.Walk.{uint-vals, uint-tells, uint-makes, usize, u64, RefT, MutRef, ShrSlice, MutSlice, finally}
@@ -30,7 +32,8 @@ use Rattle.store.proofs.Answer as answers
 use Rattle.store.proofs.Answer.Laws as answer-laws
 use Rattle.store.proofs.Reply as replies
 use Rattle.store.proofs.Reply.Laws as reply-laws
-use Rattle.server.proofs.Passing.{sheet-value, sheet-values, call-value, reply-value, reply-values, slice-value, Others, OtherValues, values-of}
+use Rattle.server.proofs.Passing.{sheet-value, sheet-values, call-value, reply-value, reply-values, slice-value}
+use Rattle.server.proofs.Passing.{Others, OtherValues, values-of}
 use Rattle.server.proofs.alter as alter
 use Rattle.server.proofs.alter.Symbol as alter-def
 use Rattle.server.proofs.alter.Symbol.{name as #alter}
@@ -123,7 +126,8 @@ module _ {M : Type 1} (𝓤 : URA M) (H : Heap 𝓤) (A : Atoms 𝓤) (W : Given
   LentOwn life block name = MutRef (named 0) (life ∷ []) sheets.the-row .own (passed block name .0) (vptr block 0 ∷ [])
 
   asked : (life block : ℕ) (name : GName) → ent 𝓤
-      (onEntry 𝓤 H A alter.signature (life ∷ [], (κ-table, (κ-list, tt))) (fullShare, (q-table, (q-list, tt))) (passed block name) (passed-values block))
+      (onEntry 𝓤 H A alter.signature (life ∷ [], (κ-table, (κ-list, tt))) (fullShare, (q-table, (q-list, tt)))
+      (passed block name) (passed-values block))
       (Asked life block name)
   asked life block name =
       qed W (tokens-and life ∷ ‵ (owns (MutRef (named 0) (life ∷ []) sheets.the-row ∷ ShrSlice (named 1) κ-table u64 ∷ usize ∷ usize
@@ -252,7 +256,8 @@ module _ {M : Type 1} (𝓤 : URA M) (H : Heap 𝓤) (A : Atoms 𝓤) (W : Given
       let lent-table = shr-slice-tells (named 0) (κs .0) u64 in
       let number = uint-tells w64 in
       let lent-list = mut-slice-tells (named 1) (κs .1 .0) usize in
-      (struct.tells sheets.the-type sheet-laws.the-laws, (lent-table, (number, (number, (enum.tells calls.the-type call-laws.the-laws, (lent-list, tt)))))))
+      let call = enum.tells calls.the-type call-laws.the-laws in
+      (struct.tells sheets.the-type sheet-laws.the-laws, (lent-table, (number, (number, (call, (lent-list, tt)))))))
       (λ κs qs bounds a _ are. via 𝓤 _ (fst∗ 𝓤 _ (emp 𝓤)) (walk 𝓤 H A W at-mem run (κs .0) (κs .1 .0) (qs .0) (qs .1 .0)
       (a .0) (a .1 .0) (a .1 .1 .0) (a .1 .1 .1 .0) (a .1 .1 .1 .1 .0) (a .1 .1 .1 .1 .1 .0)
       (are .1 .1 .0 .1) (are .1 .1 .1 .0 .1) C Λ fm known (are .0) (are .1 .0) (are .1 .1 .1 .1 .0) (are .1 .1 .1 .1 .1 .0)))

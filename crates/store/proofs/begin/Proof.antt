@@ -15,7 +15,8 @@ use Rattle.store.proofs.begin.Tie as tie
 
 -- once the table is right
 right-at : (c : tie.Else1)
-    → let e = c .before .before .before .before in accepted (decided Refused (tableCases mostRows (e .args .d) (rowsOf (e .args .table .now))) Done) ≡ true
+    → let e = c .before .before .before .before in
+    accepted (decided Refused (tableCases mostRows (e .args .d) (rowsOf (e .args .table .now))) Done) ≡ true
 right-at c =
     ap accepted (sym (c .before .before .judge .ensures)) ∙ sym (c .before .accepted .ensures)
     ∙ not-false (c .before .accepted .result) (c .if1 .left)

@@ -32,7 +32,9 @@ returns c = rw (c .before .before .question .given .1) record { answer-is = c .l
 returns-2 : tie.Need-returns-2
 unfolding decided
 returns-2 c =
-    rw (c .before .enum-told .given .1) record { answer-is = ap (λ (n : ℕ). Counted n (c .before .before .before .before .before .args .held)) (c .row-count .ensures); list-is = nothing-written _ _ }
+    let e = c .before .before .before .before .before in
+    rw (c .before .enum-told .given .1)
+    record { answer-is = ap (λ (n : ℕ). Counted n (e .args .held)) (c .row-count .ensures); list-is = nothing-written _ _ }
 
 same-length : tie.Need-same-length
 same-length c = search needs

@@ -31,9 +31,10 @@ same-length c = search needs
 
 returns : tie.Need-returns
 returns c =
-    let e = c .before .before .before .before .before .before .before .before .before .before .before in
+    let answer = c .before .before .before .before in
+    let e = answer .before .before .before .before .before .before .before in
     carried-refused (e .args .d) (rowsOf (e .args .table .now)) (sheetAt e) (e .args .desk) (e .args .call) (e .args .list .now) _ _
-    (c .before .before .before .before .respond .ensures)
+    (answer .respond .ensures)
     (sym (c .before .accepted .ensures) ∙ not-true (c .before .accepted .result) (c .if1 .taken))
 
 enum-known-call : tie.Need-enum-known-call
@@ -47,27 +48,32 @@ same-length-2 c = search needs
 
 returns-2 : tie.Need-returns-2
 returns-2 c =
-    let e = c .before .before .before .before .before .before .before .before .before .before .before .before .before in
+    let accepts = c .before .before in
+    let answer = accepts .before .before .before .before in
+    let e = answer .before .before .before .before .before .before .before in
     carried-question (e .args .d) (rowsOf (e .args .table .now)) (sheetAt e) (e .args .desk) (e .args .call) (e .args .list .now) _ _
-    (c .before .before .before .before .before .before .respond .ensures)
-    (accepted-at (c .before .before)) _ (c .enum-told .given .1)
+    (answer .respond .ensures) (accepted-at accepts) _ (c .enum-told .given .1)
 
 make-requires : tie.Need-make-requires
 make-requires c κs =
-    let e = c .before .before .before .before .before .before .before .before .before .before .before .before .before .before .before .before .before in
-    room-in-parts (sheetAt e) (e .args .desk) (c .before .before .before .before .call .given .1)
-    (c .before .before .before .before .before .before .before .before .before .before .respond .ensures .room (accepted-at (c .before .before .before .before .before .before)))
+    let asked = c .before .before .before .before in
+    let accepts = asked .before .before in
+    let answer = accepts .before .before .before .before in
+    let e = answer .before .before .before .before .before .before .before in
+    room-in-parts (sheetAt e) (e .args .desk) (asked .call .given .1) (answer .respond .ensures .room (accepted-at accepts))
 
 same-length-3 : tie.Need-same-length-3
 same-length-3 c = search needs
 
 returns-3 : tie.Need-returns-3
 returns-3 c =
-    let e = c .before .before .before .before .before .before .before .before .before .before .before .before .before .before .before .before .before .before in
+    let asked = c .before .before .before .before .before in
+    let accepts = asked .before .before in
+    let answer = accepts .before .before .before .before in
+    let e = answer .before .before .before .before .before .before .before in
     carried-accepted (e .args .d) (rowsOf (e .args .table .now)) (sheetAt e) (e .args .desk) (e .args .call) (e .args .list .now) _ _
-    (c .before .before .before .before .before .before .before .before .before .before .before .respond .ensures)
-    (accepted-at (c .before .before .before .before .before .before .before)) _
-    (rw (c .before .before .before .before .before .call .given .1) (c .make .ensures (e .args .sheetd) (e .args .rows) (e .args .desks)))
+    (answer .respond .ensures) (accepted-at accepts) _
+    (rw (asked .call .given .1) (c .make .ensures (e .args .sheetd) (e .args .rows) (e .args .desks)))
 
 pub carry-out-spec : {M : Type 1} → statement M
 carry-out-spec =

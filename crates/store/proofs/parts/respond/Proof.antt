@@ -98,7 +98,8 @@ serve-requires c κs =
     let sound = said .before .before .before in
     let right = sound .before .before .before .before in
     let e = right .before .before .before .before .before in
-    trusted-parts (e .args .d) (rowsOf (e .args .table .now)) (e .args .desk) (right-at right) (sound .before .before .check .ensures) (sound-at sound)
+    trusted-parts (e .args .d) (rowsOf (e .args .table .now)) (e .args .desk)
+    (right-at right) (sound .before .before .check .ensures) (sound-at sound)
     (known-is said ∙ not-false (said .accepted2 .result) (there .if3 .left))
 
 same-length : tie.Need-same-length
@@ -111,7 +112,8 @@ returns-4 c =
     let sound = said .before .before .before in
     let right = sound .before .before .before .before in
     let e = right .before .before .before .before .before in
-    served-responds (e .args .d) (rowsOf (e .args .table .now)) (e .args .desk) (right-at right) (sound .before .before .check .ensures) (sound-at sound)
+    served-responds (e .args .d) (rowsOf (e .args .table .now)) (e .args .desk)
+    (right-at right) (sound .before .before .check .ensures) (sound-at sound)
     (known-is said ∙ not-false (said .accepted2 .result) (there .if3 .left)) (c .before .before .serve .ensures)
 
 pub respond-spec : {M : Type 1} → statement M
