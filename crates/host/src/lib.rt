@@ -18,7 +18,8 @@ mod spoken; // spoken.rt: calls and answers as plain numbers
 #[no_mangle]
 pub extern "C" fn foliokettle_distinct(d: usize, view: &[u64], list: &mut [usize]) -> Plain
     ensures { λ r. ⌜ (r ≡ plainKept (askAnswer d (rowsOf (now (view .entry))) (length (now (list .entry)))))
-        × (now (list .exit) ≡ listed d (rowsOf (now (view .entry))) (now (list .entry)) (askAnswer d (rowsOf (now (view .entry))) (length (now (list .entry))))) ⌝ }
+        × (now (list .exit) ≡ listed d (rowsOf (now (view .entry))) (now (list .entry))
+        (askAnswer d (rowsOf (now (view .entry))) (length (now (list .entry))))) ⌝ }
 {
     let answer = distinct::ask(d, view, list);
     match answer {
@@ -113,7 +114,8 @@ pub extern "C" fn foliokettle_alter(
     list: &mut [usize],
 ) -> Plain
     ensures { λ r. ⌜ (r ≡ handedBy (askedBy kind n) d (rowsOf (now (table .entry))) (now (sheet .entry)) desk (length (now (list .entry))) .told)
-        × (now (sheet .exit) ≡ handedBy (askedBy kind n) d (rowsOf (now (table .entry))) (now (sheet .entry)) desk (length (now (list .entry))) .sheet)
+        × (now (sheet .exit)
+        ≡ handedBy (askedBy kind n) d (rowsOf (now (table .entry))) (now (sheet .entry)) desk (length (now (list .entry))) .sheet)
         × (now (list .exit) ≡ listOf (askedBy kind n) d (rowsOf (now (table .entry))) (now (sheet .entry)) desk (now (list .entry))) ⌝ }
 {
     let before = *sheet;

@@ -99,7 +99,8 @@ properInsert d desks t = ltb (t .desk) desks && properCall d (t .call)
 
 pub record Demand3 (d : ℕ) (table : List ℕ) (desks : ℕ) (tell : Store) : Type 0 where
   -- a desk with fewer than eight rows of its own has its next proper insert accepted
-  pub next : (past : List Turn) (t : Turn) → properInsert d desks t ≡ true → heldBy tell (t .desk) past < promised → accepted (tell past t .answer) ≡ true
+  pub next : (past : List Turn) (t : Turn) → properInsert d desks t ≡ true → heldBy tell (t .desk) past < promised
+      → accepted (tell past t .answer) ≡ true
   -- no desk passes 64, and the class never passes 512
   pub desk-limit : (past : List Turn) (k : ℕ) → heldBy tell k past ≤ mostHeld
   pub class-limit : (past : List Turn) → usedBy tell desks past ≤ mostPlaces

@@ -146,7 +146,8 @@ fn judge_change<'a>(
     desk: usize,
     change: Change,
 ) -> Answer
-    requires { ⌜ Trusted d (rowsOf (now table)) (sheetOf d (length (rowsOf (now table))) desks used (now marks) (now sets) (now owners)) (now counts) desk ⌝ }
+    requires { ⌜ Trusted d (rowsOf (now table))
+        (sheetOf d (length (rowsOf (now table))) desks used (now marks) (now sets) (now owners)) (now counts) desk ⌝ }
     ensures { λ r. ⌜ ChangeJudged d (rowsOf (now (table .entry)))
         (sheetOf d (length (rowsOf (now (table .entry)))) desks used (now (marks .entry)) (now (sets .entry)) (now (owners .entry))) desk change r ⌝ }
 {
@@ -177,7 +178,8 @@ pub fn serve<'a>(
     call: Call,
     list: &mut [usize],
 ) -> Answer
-    requires { ⌜ Trusted d (rowsOf (now table)) (sheetOf d (length (rowsOf (now table))) desks used (now marks) (now sets) (now owners)) (now counts) desk ⌝ }
+    requires { ⌜ Trusted d (rowsOf (now table))
+        (sheetOf d (length (rowsOf (now table))) desks used (now marks) (now sets) (now owners)) (now counts) desk ⌝ }
     ensures { λ r. ⌜ Served d (rowsOf (now (table .entry)))
         (sheetOf d (length (rowsOf (now (table .entry)))) desks used (now (marks .entry)) (now (sets .entry)) (now (owners .entry))) desk call
         (now (list .entry)) r (now (list .exit)) ⌝ }

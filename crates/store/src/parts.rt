@@ -1,5 +1,4 @@
 // A desk's call on the parts of a sheet, altered where they lie.
-ghost use mathlib.Core.Path.{_≡_};
 ghost use Rattle.sets.specs.Rows.{rowsOf};
 ghost use Rattle.sheet.specs.code.Surveys.{sheetOf};
 ghost use Rattle.store.specs.declared.Call.the-variants.{Do};

@@ -66,8 +66,8 @@ pub fn gather<'a>(
     owners: &'a [usize; Sheet::PLACES],
     rows: &mut [u64],
 ) -> usize
-    requires { ⌜ (desk < mostDesks) × (length (rowsOf (now table)) ≤ mostRows) × (used ≤ mostPlaces) × (countTo (owns (now owners) desk) used ≤ mostHeld)
-        × (length (rowsOf (now rows)) ≡ mostInView) ⌝ }
+    requires { ⌜ (desk < mostDesks) × (length (rowsOf (now table)) ≤ mostRows)
+        × (used ≤ mostPlaces) × (countTo (owns (now owners) desk) used ≤ mostHeld) × (length (rowsOf (now rows)) ≡ mostInView) ⌝ }
     ensures { λ r. ⌜ Viewed (rowsOf (now (table .entry))) (hides (now (marks .entry)) desk)
         (those (owns (now (owners .entry)) desk) (rowsOf (now (sets .entry))) used) r (rowsOf (now (rows .exit))) ⌝ }
 {
