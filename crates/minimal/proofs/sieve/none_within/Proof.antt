@@ -90,7 +90,9 @@ returns c =
     (omega (arith, miss .1, a .before .before .loop-test .taken)) (miss .2)
 
 add-next : tie.Need-add-next Inv-loop μ-loop Inv-loop2 μ-loop2
-add-next c = search needs
+add-next c =
+    let test = c .before .before .before .before .before .before .before .before .before in
+    record { fits = omega (arith, test .loop-test .taken, start (test .before .before) .fits .found .fits) }
 
 loop-less : tie.Need-loop-less Inv-loop μ-loop Inv-loop2 μ-loop2
 loop-less c = search needs

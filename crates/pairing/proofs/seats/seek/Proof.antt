@@ -155,7 +155,7 @@ same-length : tie.Need-same-length
 same-length c = stored (put-of (c .before .before .before .before .before)) .0
 
 same-length-2 : tie.Need-same-length-2
-same-length-2 c = search needs
+same-length-2 c = entered-of (c .before .before .before .before .before) .enter-light .kept .1 .1 .1 .0
 
 same-length-3 : tie.Need-same-length-3
 same-length-3 c =
