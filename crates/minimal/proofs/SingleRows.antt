@@ -11,11 +11,10 @@ use lib.Bits.{bitAnd, bitOr}
 use lib.Dec.{eqb}
 use lib.ListN.{length, set, length-set}
 use lib.Seq.{getD-set-other}
-use borrow.Author.Tests.{eqb-true, eqb-false}
-use Rattle.sets.specs.Sets.{has, single, subset}
+use Rattle.sets.specs.Sets.{has, single, subset, minus}
 use Rattle.sets.proofs.Bools.{not-both, is-false, or-right}
 use Rattle.sets.proofs.Values.{has-empty, has-or, has-same, with-old, with-cases}
-use Rattle.sets.proofs.Subsets.{subset-has, has-subset, subset-antisym}
+use Rattle.sets.proofs.Subsets.{subset-has, has-subset, subset-refl, subset-antisym, minus-empty}
 use Rattle.sets.proofs.ValuesBelow.{some-value}
 use Rattle.theory.specs.Pairings.{at}
 use Rattle.theory.specs.Kept.{marked, firsts}
@@ -52,12 +51,17 @@ within-single a v ne e =
 
 -- ---- whether a row has one value
 
--- r answers whether a row that has the value v is the set of v
-pub one-value : (r : Bool) (x v s : ℕ) → has x v ≡ true → s ≡ single v → r ≡ eqb x s → IsSingle r x
+-- r answers whether nothing is left of a row once a value of it is taken out
+pub one-value : (r : Bool) (x v s : ℕ) → has x v ≡ true → s ≡ minus x (single v) → r ≡ eqb s zero → IsSingle r x
 one-value r x v s there is answer = record {
-  one = λ t. (v, eqb-true x s (sym answer ∙ t) ∙ is);
-  more = λ f u d. eqb-false x s (sym answer ∙ f) (d ∙ ap single (single-only u v (ap (λ (y : ℕ). has y v) (sym d) ∙ there)) ∙ sym is);
+  one = λ t. (v, subset-antisym x (single v) (inside ∙ t) (has-subset (single v) x (λ u h. ap (has x) (sym (single-only v u h)) ∙ there)));
+  more = λ f u d.
+      let same = d ∙ ap single (single-only u v (ap (λ (y : ℕ). has y v) (sym d) ∙ there)) in
+      not-both (ap (λ (y : ℕ). subset y (single v)) same ∙ subset-refl (single v)) (inside ∙ f);
 }
+  where
+    inside : subset x (single v) ≡ r
+    inside = sym (answer ∙ ap (λ (n : ℕ). eqb n zero) is ∙ minus-empty x (single v))
 
 -- ---- one row
 

@@ -7,12 +7,12 @@ ghost use Rattle.sets.specs.Rows.{bits, rowsOf};
 ghost use Rattle.minimal.specs.code.Marking.{NoMarks, NoneEmpty, IsSingle, Singles, Marks};
 use sets::Row;
 
-// The row has one value.
+// The row has one value: without its lowest, it has none.
 fn is_single(x: Row) -> bool
     requires { ⌜ bits x ≢ zero ⌝ }
     ensures { λ r. ⌜ IsSingle r (bits x) ⌝ }
 {
-    sets::equal(x, sets::single(sets::lowest(x)))
+    sets::is_empty(sets::rest(x))
 }
 
 // Marks the rows of one value, of equal ones the first, and answers the set of their values.
