@@ -34,10 +34,13 @@ fn offer_seats(
         let i = next;
         next += 1;
         if keep[i] == marked {
-            let used = seats.used;
-            seats = pairing::seats::offer(sets::row_at(view, i), seats, rows, columns, mates);
-            if used < seats.used {
-                keep[i] = true;
+            let row = sets::row_at(view, i);
+            if !pairing::seats::hopeless(row, seats.free, seats.dead) {
+                let used = seats.used;
+                seats = pairing::seats::offer(row, seats, rows, columns, mates);
+                if used < seats.used {
+                    keep[i] = true;
+                }
             }
         }
     }

@@ -99,10 +99,14 @@ fn sit_near(
     seated(s, row, v)
 }
 
-// A row that need not seek: no value is free, or the row holds dead values only. A view of one value over and over would search for each row.
-fn hopeless(row: Row, free: Row, dead: Row) -> bool
+// A row that gets no seat: no value is free, or the row holds dead values only. A view of one value over and over would search for each row.
+// A row that holds a free value is told first, since most rows of a small view do.
+pub fn hopeless(row: Row, free: Row, dead: Row) -> bool
     ensures { λ r. ⌜ Hopeless r (bits row) (bits free) (bits dead) ⌝ }
 {
+    if sets::meets(row, free) {
+        return false;
+    }
     if sets::is_empty(free) {
         return true;
     }

@@ -1,12 +1,15 @@
 -- `offer_seats` meets its contract: one row more is passed by in each turn of the loop. Assumes nothing.
 use Prim.Native.Nat.{_-_, _<_}
 use mathlib.Core.Path.{_≡_, refl, sym, _∙_}
+use native.Mathlib.Nat.{le-refl}
 use native.Mathlib.Omega.{arith}
 use borrow.Author.Needs.{needs}
+use borrow.Author.Tests.{not-false}
 use lib.ListN.{length}
 use Rattle.sets.specs.Rows.{rowsOf}
 use Rattle.theory.specs.Pairings.{at}
 use Rattle.pairing.specs.code.Seats.{OfSeat}
+use Rattle.pairing.proofs.SeatSteps.{seat-passed}
 use Rattle.distinct.proofs.Offers.{marks-same, marks-other, Offering, offering-start, offering-long, offering-end}
 use Rattle.distinct.proofs.Offers.{offering-other, offering-seated, offering-passed}
 use Rattle.distinct.proofs.steps.offer_seats.Statement.{statement}
@@ -42,16 +45,19 @@ slice-read-if1 c = omega (arith, offering-long _ (c .before .before .loop .inv .
 row-at-requires : tie.Need-row-at-requires Inv-loop μ-loop
 row-at-requires c κs = inside (c .before .before)
 
+hopeless-requires : tie.Need-hopeless-requires Inv-loop μ-loop
+hopeless-requires c κs = search needs
+
 offer-requires : tie.Need-offer-requires Inv-loop μ-loop
 offer-requires c κs =
-    let r = c .before .before .before in
+    let r = c .before .before .before .before .before in
     let l = r .before .before .before .before .loop in
     (l .inv .0 .pairs .sits, rw (r .row-at .ensures .0) (l .inv .0 .pairs .small (l .next)))
 
 -- ---- the loop's row, seen from the place where it has been offered a seat
 
 abbrev row-of : tie.After-offer Inv-loop μ-loop → tie.After-row-at Inv-loop μ-loop
-row-of c = c .before .before .before .before
+row-of c = c .before .before .before .before .before .before
 
 abbrev loop-of : tie.After-offer Inv-loop μ-loop → tie.In-loop Inv-loop μ-loop
 loop-of c = row-of c .before .before .before
@@ -80,7 +86,7 @@ loop-again c =
     let o = offered-at (c .before) in
     let t = loop-of o in
     let same = marks-same _ _ (row-of o .before .if1 .taken) in
-    (offering-seated (inside t) (answer o) _ (t .before .loop .inv .0) same (c .if2 .taken), as-long o .0, as-long o .1)
+    (offering-seated (inside t) (answer o) _ (t .before .loop .inv .0) same (c .if3 .taken), as-long o .0, as-long o .1)
 
 loop-less-2 : tie.Need-loop-less-2 Inv-loop μ-loop
 loop-less-2 c = search needs
@@ -90,13 +96,26 @@ loop-again-2 c =
     let o = offered-at (c .before) in
     let t = loop-of o in
     let same = marks-same _ _ (row-of o .before .if1 .taken) in
-    (offering-passed (inside t) (answer o) _ (t .before .loop .inv .0) same (c .if2 .left), as-long o .0, as-long o .1)
+    (offering-passed (inside t) (answer o) _ (t .before .loop .inv .0) same (c .if3 .left), as-long o .0, as-long o .1)
 
 loop-less-3 : tie.Need-loop-less-3 Inv-loop μ-loop
 loop-less-3 c = search needs
 
+-- a row that is hopeless is passed by
 loop-again-3 : tie.Need-loop-again-3 Inv-loop μ-loop
 loop-again-3 c =
+    let r = c .before .before in
+    let t = r .before .before .before in
+    let l = t .before .loop .inv in
+    let why = rw (r .row-at .ensures .0) at (c .before .hopeless .ensures .why (not-false (c .before .hopeless .result) (c .if2 .left))) in
+    let same = marks-same _ _ (r .before .if1 .taken) in
+    (offering-passed (inside t) (seat-passed (l .0 .pairs .sits) why) _ (l .0) same (le-refl _), l .1, l .2)
+
+loop-less-4 : tie.Need-loop-less-4 Inv-loop μ-loop
+loop-less-4 c = search needs
+
+loop-again-4 : tie.Need-loop-again-4 Inv-loop μ-loop
+loop-again-4 c =
     let t = c .before .before in
     let l = t .before .loop .inv in
     (offering-other (inside t) _ (l .0) (marks-other _ _ (c .if1 .left)), l .1, l .2)
@@ -128,6 +147,7 @@ offer-seats-spec =
     add-next
     slice-read-if1
     row-at-requires
+    hopeless-requires
     offer-requires
     slice-write-keep
     loop-less
@@ -136,6 +156,8 @@ offer-seats-spec =
     loop-again-2
     loop-less-3
     loop-again-3
+    loop-less-4
+    loop-again-4
     same-length
     same-length-2
     same-length-3
