@@ -1,5 +1,5 @@
 -- One row more is passed by in a turn of offers: it has the other mark, or has got a seat, or none. Assumes nothing.
-use Prim.Native.Nat.{ℕ, zero, _+_, _≤_, _<_}
+use Prim.Native.Nat.{ℕ, zero, suc, _+_, _≤_, _<_}
 use mathlib.Core.Path.{_≡_, refl, sym, ap, _∙_, subst}
 use mathlib.Core.Logic.{inl, inr}
 use mathlib.Core.Bool.{Bool, true, false, Bool·beq, true≢false, false≢true}
@@ -8,13 +8,14 @@ use native.Mathlib.Nat.{le-refl}
 use native.Mathlib.Omega.{arith}
 use lib.ListN.{length, set}
 use lib.Seq.{set-getD}
-use Rattle.sets.specs.Rows.{width}
+use Rattle.sets.specs.Rows.{width, bits}
 use Rattle.sets.proofs.Bools.{true-or-false, is-false}
 use Rattle.theory.specs.Pairings.{at}
 use Rattle.theory.specs.Kept.{marked, tries}
 use Rattle.theory.proofs.NextRow.{tries-none, try-marked}
 use Rattle.pairing.specs.declared.seats.Seating.{Seating}
 use Rattle.pairing.specs.code.Seats.{OfSeat}
+use Rattle.pairing.proofs.SeatSteps.{seat-passed}
 use Rattle.distinct.specs.code.Steps.{before, Pairs, offered, marksThen}
 use Rattle.distinct.proofs.MarksBefore.{length-before, before-none, before-all, before-marked, before-unmarked}
 use Rattle.distinct.proofs.RowSteps.{pairs-marked, pairs-kept, pairs-passed, tried-more}
@@ -109,6 +110,22 @@ module _ {view : List ℕ} {ms₀ ms : List Bool} {n : ℕ} {s : Seating} {rows 
     offering-passed false O same less =
         let k = pairs-passed (O .pairs) h same A less in
         record { bound = omega arith; pairs = k .0; marks = tried-more view ms₀ ms n ms (O .marks) (k .1) }
+
+-- no value is free: the rows from n on, k of them, are passed by
+pub offering-full : (b : Bool) {view : List ℕ} {ms₀ ms : List Bool} (n k : ℕ) {s : Seating} {rows columns mates : List ℕ} → n + k ≡ length view
+    → bits (s .free) ≡ zero → Offering b view ms₀ ms n s rows columns mates → Offering b view ms₀ ms (length view) s rows columns mates
+offering-full b {view} {ms₀} {ms} n zero {s} {rows} {columns} {mates} e none O =
+    subst (λ (m : ℕ). Offering b view ms₀ ms m s rows columns mates) (omega arith) O
+offering-full b {view} {ms₀} {ms} n (suc k) {s} {rows} {columns} {mates} e none O = offering-full b (n + 1) k (omega arith) none next
+  where
+    here : n < length view
+    here = omega arith
+
+    next : Offering b view ms₀ ms (n + 1) s rows columns mates
+    next = elim (true-or-false (Bool·beq (marked ms n) b)) [
+      | inl t ↦ offering-passed here (seat-passed (O .pairs .sits) (inr none)) b O (marks-same (marked ms n) b t) (le-refl (s .used))
+      | inr f ↦ offering-other here b O (marks-other (marked ms n) b f)
+    ]
 
 -- ---- the turns
 

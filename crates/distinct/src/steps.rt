@@ -14,6 +14,7 @@ use pairing::seats::Seating;
 pub const SEATS: usize = sets::VALUES;
 
 // The rows whose mark is `marked` are offered seats in view order, and one that gets a seat is marked. For marked rows that changes no mark.
+// Once no value is free, nobody more gets a seat.
 fn offer_seats(
     marked: bool,
     view: &[u64],
@@ -31,6 +32,9 @@ fn offer_seats(
     let n = sets::row_count(view);
     let mut next: usize = 0;
     while next < n {
+        if sets::is_empty(seats.free) {
+            return seats;
+        }
         let i = next;
         next += 1;
         if keep[i] == marked {
