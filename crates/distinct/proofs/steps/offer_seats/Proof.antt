@@ -62,7 +62,8 @@ returns c =
     let l = at-full c in
     let many = length (rowsOf (start l .args .view .now)) in
     let none = eqb-true _ _ (sym (c .before .is-empty .ensures) ∙ c .if1 .taken) in
-    offering-end _ (offering-full _ (l .loop .next) (many - l .loop .next) (omega (arith, inside (c .before .before))) none (l .loop .inv .0)) (le-refl _)
+    let full = offering-full _ (l .loop .next) (many - l .loop .next) (omega (arith, inside (c .before .before))) none (l .loop .inv .0) in
+    offering-end _ full (le-refl _)
 
 -- ---- a row more
 
