@@ -25,6 +25,11 @@ outcome (c ∷ cs) = go (c .applies) refl (outcome cs)
     go false e (inl none) = inl (e, none)
     go false e (inr (r, g)) = inr (r, inr (e, g))
 
+-- of cases behind cases, the first
+pub none-first : (cs ds : List Case) → NoneApplies (cs ++ ds) → NoneApplies cs
+none-first [] ds none = tt
+none-first (c ∷ cs) ds none = (none .0, none-first cs ds (none .1))
+
 module _ {A : Type 0} (refused : Refusal → A) where
   -- cases behind cases are one list
   pub chained : (cs ds : List Case) (a : A) → decided refused cs (decided refused ds a) ≡ decided refused (cs ++ ds) a
@@ -50,13 +55,17 @@ module _ {A : Type 0} (refused : Refusal → A) where
   pub refuses-first : (cs ds : List Case) (r : Refusal) → Gives cs r → (a : A) → decided refused (cs ++ ds) a ≡ refused r
   refuses-first cs ds r g a = sym (chained cs ds a) ∙ refuses cs r g (decided refused ds a)
 
-  -- the other way, where no refusal is the answer, nor another refusal
+  -- the other way, where what is answered is no refusal
+  pub answered : (a b : A) → ((r : Refusal) → refused r ≢ b) → (cs : List Case) → decided refused cs a ≡ b → NoneApplies cs × (a ≡ b)
+  answered a b apart cs e = elim (outcome cs) [
+    | inl none ↦ (none, sym (stands cs none a) ∙ e)
+    | inr (r, g) ↦ absurd (apart r (sym (refuses cs r g a) ∙ e))
+  ]
+
+  -- where no refusal is the answer that stands, nor another refusal
   module _ (a : A) (apart : (r : Refusal) → refused r ≢ a) where
     pub stood : (cs : List Case) → decided refused cs a ≡ a → NoneApplies cs
-    stood cs e = elim (outcome cs) [
-      | inl none ↦ none
-      | inr (r, g) ↦ absurd (apart r (sym (refuses cs r g a) ∙ e))
-    ]
+    stood cs e = answered a a apart cs e .0
 
     pub refusing : ((r s : Refusal) → refused r ≡ refused s → r ≡ s) → (cs : List Case) (r : Refusal) → decided refused cs a ≡ refused r → Gives cs r
     refusing same cs r e = elim (outcome cs) [

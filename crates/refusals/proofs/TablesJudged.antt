@@ -44,7 +44,7 @@ pub or-no : (a b : Bool) → (a || b) ≡ false → (a ≡ false) × (b ≡ fals
 or-no false b e = (refl, e)
 or-no true b e = absurd (false≢true (sym e))
 
-not-found : (f : Found) → found f ≡ false → f ≡ Nothing
+pub not-found : (f : Found) → found f ≡ false → f ≡ Nothing
 not-found Nothing e = refl
 not-found (At i) e = absurd (false≢true (sym e))
 

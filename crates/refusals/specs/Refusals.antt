@@ -1,9 +1,9 @@
--- The refusals by the request's numbers ('Refusal numbers', and those of 'Lesson files').
+-- The refusals by the request's numbers ('Refusal numbers', those of 'Lesson files', and those of the wishes that followed).
 use Prim.Native.Nat.{ℕ, zero}
 use Rattle.refusals.specs.declared.Refusal.{Refusal}
 use Rattle.refusals.specs.declared.Refusal.the-variants.{TooLarge, BadRow, Unsound, OtherTable, NoDesk, NoRow, HiddenAlready, BadSet, Full}
 use Rattle.refusals.specs.declared.Refusal.the-variants.{NoRoom, ShortList, LongView, BadDesks, ShortFile, WrongMark, WrongVersion, BadValues}
-use Rattle.refusals.specs.declared.Refusal.the-variants.{ManyRows, CutShort, RowOver, AllUnknown, FewPlaces}
+use Rattle.refusals.specs.declared.Refusal.the-variants.{ManyRows, CutShort, RowOver, AllUnknown, FewPlaces, ShortBuffer}
 
 abbrev pub number : Refusal → ℕ
 number TooLarge = 1
@@ -28,6 +28,7 @@ number CutShort = 25
 number (RowOver i) = 26
 number AllUnknown = 27
 number FewPlaces = 28
+number ShortBuffer = 30
 
 -- 'A refusal returns its number and a row number (0 except where stated)'
 abbrev pub row : Refusal → ℕ
@@ -53,3 +54,4 @@ row CutShort = zero
 row (RowOver i) = i
 row AllUnknown = zero
 row FewPlaces = zero
+row ShortBuffer = zero

@@ -28,6 +28,7 @@ pub enum Refusal {
     RowOver(usize),
     AllUnknown,
     FewPlaces,
+    ShortBuffer,
 }
 
 pub fn number(refusal: Refusal) -> usize
@@ -56,6 +57,7 @@ pub fn number(refusal: Refusal) -> usize
         Refusal::RowOver(_) => 26,
         Refusal::AllUnknown => 27,
         Refusal::FewPlaces => 28,
+        Refusal::ShortBuffer => 30,
     }
 }
 
@@ -86,5 +88,6 @@ pub fn row(refusal: Refusal) -> usize
         Refusal::RowOver(i) => i,
         Refusal::AllUnknown => 0,
         Refusal::FewPlaces => 0,
+        Refusal::ShortBuffer => 0,
     }
 }

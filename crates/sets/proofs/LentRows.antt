@@ -1,6 +1,6 @@
 -- The rows of lent words, whatever the number of words to a row: how many, what a store does to them, parts of them, and words that are no row.
 -- Assumes nothing.
-use Prim.Native.Nat.{ℕ, zero, suc, _+_, _*_, _/_, _^_, _<_, _≤_}
+use Prim.Native.Nat.{ℕ, zero, suc, _+_, _*_, _/_, _^_, _<_, _≤_, suc-le-suc}
 use mathlib.Core.Path.{_≡_, refl, sym, ap, ap₂, _∙_}
 use mathlib.Core.List.{List, [], _∷_, _++_, append-nil, append-assoc}
 use native.Mathlib.Nat.{zero-lt-suc, not-suc-le-zero, le-of-suc-le-suc, zero-mul, one-mul, suc-mul, add-comm}
@@ -12,7 +12,7 @@ use Rattle.sets.specs.declared.Row.{Row}
 use Rattle.sets.specs.Words.{bitsOf, rowsIn}
 use Rattle.sets.specs.Rows.{rowWords, width, wordsOf, bits, asRow, rowsOf, inWords, putRow}
 use Rattle.sets.proofs.RowsInWords.{wordsFrom, in-length, in-end, in-room, in-at, in-less, in-put, in-single}
-use Rattle.sets.proofs.RowsInWords.{in-append, in-few, in-front, in-take, in-zero}
+use Rattle.sets.proofs.RowsInWords.{in-append, in-few, in-front, in-take, in-drop, in-zero}
 use Rattle.sets.proofs.RowValues.{bits-less, row-bits}
 use Rattle.sets.proofs.OneWord.{words-of-length, words-of-zero}
 
@@ -110,6 +110,10 @@ pub rows-take : (k : ℕ) (ws : List ℕ) → k ≤ length (rowsOf ws) → rowsO
 unfolding rowsOf
 rows-take = in-take rowWords some
 
+pub rows-drop : (k : ℕ) (ws : List ℕ) → k ≤ length (rowsOf ws) → rowsOf (drop (k * rowWords) ws) ≡ drop k (rowsOf ws)
+unfolding rowsOf
+rows-drop = in-drop rowWords some
+
 pub rows-zero : (k : ℕ) → rowsOf (replicate (k * rowWords) 0) ≡ replicate k 0
 unfolding rowsOf
 rows-zero = in-zero rowWords some
@@ -142,6 +146,10 @@ words-zeros (suc k) =
 abbrev pub Narrow : List ℕ → Type 0
 Narrow [] = Unit {0}
 Narrow (r ∷ rows) = (r < 2 ^ width) × Narrow rows
+
+pub narrow-each : (rows : List ℕ) → ((i : ℕ) → i < length rows → getD rows i 0 < 2 ^ width) → Narrow rows
+narrow-each [] p = tt
+narrow-each (r ∷ rows) p = (p zero (zero-lt-suc (length rows)), narrow-each rows (λ i h. p (suc i) (suc-le-suc h)))
 
 pub narrow-append : (xs bs : List ℕ) → Narrow xs → Narrow bs → Narrow (xs ++ bs)
 narrow-append [] bs p q = q

@@ -156,6 +156,9 @@ module _ (n : ℕ) (some : 0 < n) where
     pub in-take : rowsIn n (take (k * n) ws) ≡ take k (rowsIn n ws)
     in-take = sym (ap (take k) parted ∙ take-at (rowsIn n (take (k * n) ws)) (rowsIn n (drop (k * n) ws)) k in-front)
 
+    pub in-drop : rowsIn n (drop (k * n) ws) ≡ drop k (rowsIn n ws)
+    in-drop = sym (ap (drop k) parted ∙ drop-at (rowsIn n (take (k * n) ws)) (rowsIn n (drop (k * n) ws)) k in-front)
+
   -- words that are all zero are empty rows
   pub in-zero : (k : ℕ) → rowsIn n (replicate (k * n) 0) ≡ replicate k 0
   unfolding rowsIn rowsFrom bitsOf
