@@ -1,4 +1,4 @@
--- `read`, `step_at`, `take` and the reader's functions are public: their contracts ask nothing, and leave no choice. Assumes nothing.
+-- `read`, `step_at`, `take`, `write` and the reader's functions are public: their contracts ask nothing, and leave no choice. Assumes nothing.
 use Prim.Native.Nat.{ℕ}
 use mathlib.Core.Path.{_≡_, refl, sym, ap, _∙_}
 use mathlib.Core.List.{List}
@@ -7,14 +7,19 @@ use denote.Ref.{now}
 use denote.Triple.Entry.{Args, Res}
 use denote.Triple.Clauses.{AtExit}
 use Rattle.walks.proofs.Public.{Public, Contract}
+use Rattle.sets.specs.Rows.{rowsOf}
 use Rattle.files.specs.declared.Lesson.{Lesson}
+use Rattle.files.specs.declared.Saved.{Saved}
 use Rattle.files.specs.declared.Step.{Step}
 use Rattle.files.specs.Reading.{filled}
 use Rattle.files.specs.RowByRow.{stepAt, moved}
+use Rattle.files.specs.Writing.{bufferAfter}
 use Rattle.files.proofs.read.Kinds as read-kinds
 use Rattle.files.proofs.read.Reads as read
 use Rattle.files.proofs.step_at.Kinds as step-kinds
 use Rattle.files.proofs.step_at.Reads as step
+use Rattle.files.proofs.write.Kinds as write-kinds
+use Rattle.files.proofs.write.Reads as write
 use Rattle.files.proofs.reader.take.Kinds as take-kinds
 use Rattle.files.proofs.reader.take.Reads as take
 use Rattle.files.proofs.reader.Reader.new as new
@@ -35,6 +40,16 @@ step-determined = record { asks-nothing = λ κs a. tt; determined = λ κs a r 
 
 pub take-determined : Public 1 take-kinds.ps take-kinds.r take.Asked take.Post Step (λ κs r e. r)
 take-determined = record { asks-nothing = λ κs a. tt; determined = λ κs a r r′ e e′ p q. p ∙ sym q }
+
+-- the file's length or the refusal, and every byte of the lent buffer
+pub write-determined : Public 2 write-kinds.ps write-kinds.r write.Asked write.Post (Saved × List ℕ) (λ κs r e. (r, now (e .1 .1 .0)))
+write-determined = record {
+  asks-nothing = λ κs a. tt;
+  determined = λ κs a r r′ e e′ p q.
+      let same = p .0 ∙ sym (q .0) in
+      let bytes = p .1 ∙ ap (bufferAfter (a .0) (rowsOf (now (a .1 .0))) (now (a .1 .1 .0))) same ∙ sym (q .1) in
+      λ i. (same i, bytes i);
+}
 
 -- ---- the functions that are proved by hand
 

@@ -1,13 +1,19 @@
 -- `ReadExactlyWhen`: when a file is refused, and what is returned. `RequestFile`: the request's own file.
 -- `ReaderTurns`: a fresh reader hands out the rows of a file in turn, and then no more. `ReaderRuns`: so does any run of a reader.
--- `Determined`: the contracts leave no choice.
--- `ByteLaws`: numbers in bytes fit a word. `RowLaws`: the first n rows. `RowsJudged`: refusals 26 and 27 by what the code finds.
--- `CellLaws`: a cell as it is read. `Filling`: words whose front is filled. `ReadFiles`: what is known of a file that is judged.
--- `MadeReader`: what a reader owns that is made of a file and a cursor.
+-- `WriteExactlyWhen`: when a table is not saved, and what is returned and written.
+-- `ReadBack`: what was written is read again. `WriteBack`: what was read is written again. `Determined`: the contracts leave no choice.
+-- `ByteLaws`: numbers in bytes fit a word, and are read as they were put. `RowLaws`: the first n rows.
+-- `RowsJudged`: refusals 26 and 27 by what the code finds. `CellLaws`: a cell as it is read. `Filling`: words whose front is filled.
+-- `ReadFiles`: what is known of a file that is judged. `MadeReader`: what a reader owns that is made of a file and a cursor.
+-- `TableBytes`: how many bytes a table takes. `Saving`: bytes put into a buffer, part by part. `TablesSaved`: what is answered of a table once
+-- it is judged.
 pub mod ReadExactlyWhen
 pub mod RequestFile
 pub mod ReaderTurns
 pub mod ReaderRuns
+pub mod WriteExactlyWhen
+pub mod ReadBack
+pub mod WriteBack
 pub mod Determined
 pub mod ByteLaws
 pub mod RowLaws
@@ -16,3 +22,6 @@ pub mod CellLaws
 pub mod Filling
 pub mod ReadFiles
 pub mod MadeReader
+pub mod TableBytes
+pub mod Saving
+pub mod TablesSaved

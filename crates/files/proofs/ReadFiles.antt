@@ -2,7 +2,7 @@
 -- Assumes nothing.
 use Prim.Native.Nat.{ℕ, _+_, _*_, _≤_}
 use mathlib.Core.Path.{_≡_, sym, ap, _∙_}
-use mathlib.Core.Logic.{_≢_, inl, inr}
+use mathlib.Core.Logic.{_≢_}
 use mathlib.Core.Bool.{cond}
 use mathlib.Core.List.{List}
 use native.Mathlib.Omega.{arith}
@@ -12,11 +12,11 @@ use borrow.Author.Tests.{ltb-false}
 use Rattle.refusals.specs.declared.Refusal.{Refusal}
 use Rattle.refusals.specs.declared.Refusal.the-variants.{FewPlaces}
 use Rattle.refusals.specs.Cases.{decided}
-use Rattle.refusals.proofs.Outcomes.{NoneApplies, outcome, stands, refuses, stands-first, refuses-first, refusing}
+use Rattle.refusals.proofs.Outcomes.{NoneApplies, none-first, stands, stands-first, refuses-first, answered, refusing}
 use Rattle.files.specs.declared.Lesson.{Lesson}
 use Rattle.files.specs.declared.Lesson.the-variants.{Read, Refused}
 use Rattle.files.specs.Files.{valuesIn, countIn}
-use Rattle.files.specs.FileCases.{frontCases, fileCases, placeCases}
+use Rattle.files.specs.FileCases.{frontCases, fileCases, placeCases, readCases}
 use Rattle.files.specs.Reading.{countOf, judged, readAnswer}
 
 -- no refusal is an answer that the file is read
@@ -31,12 +31,9 @@ module _ (file : List ℕ) where
   accepts = Read (valuesIn file) (countIn file)
 
   -- where it is read, no case applies
-  read-none : (d t : ℕ) → judged file ≡ Read d t → NoneApplies (fileCases file) × (accepts ≡ Read d t)
+  pub read-none : (d t : ℕ) → judged file ≡ Read d t → NoneApplies (fileCases file) × (accepts ≡ Read d t)
   unfolding judged
-  read-none d t e = elim (outcome (fileCases file)) [
-    | inl none ↦ (none, sym (stands Refused (fileCases file) none accepts) ∙ e)
-    | inr (r, g) ↦ absurd (apart d t r (sym (refuses Refused (fileCases file) r g accepts) ∙ e))
-  ]
+  read-none d t e = answered Refused accepts (Read d t) (apart d t) (fileCases file) e
 
   -- its T, and all its rows
   pub record Readable (t : ℕ) : Type 0 where
@@ -58,6 +55,13 @@ module _ (file : List ℕ) where
         let none = read-none d t e in
         stands-first Refused (fileCases file) (placeCases file places) (none .0) accepts
         ∙ (λ i. cond (ltb places (countOf (none .1 i))) (Refused FewPlaces) (none .1 i))
+
+    -- so a file that is answered as read is judged so
+    pub read-judged : (d t : ℕ) → readAnswer file places ≡ Read d t → judged file ≡ Read d t
+    unfolding readAnswer judged
+    read-judged d t e =
+        let none = answered Refused accepts (Read d t) (apart d t) (readCases file places) e in
+        stands Refused (fileCases file) (none-first (fileCases file) (placeCases file places) (none .0)) accepts ∙ none .1
 
     pub still-refused : (r : Refusal) → judged file ≡ Refused r → readAnswer file places ≡ Refused r
     unfolding judged readAnswer

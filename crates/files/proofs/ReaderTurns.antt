@@ -2,13 +2,10 @@
 -- and keeps saying so. Over a file with any refusal but 28 it says so at once. Assumes nothing.
 use Prim.Native.Nat.{ℕ, zero, suc, _+_, _*_, _≤_, _<_}
 use mathlib.Core.Path.{_≡_, refl, sym, ap, _∙_}
-use mathlib.Core.List.{List, [], _∷_, _++_}
-use native.Mathlib.Nat.{not-suc-le-zero}
-use native.Mathlib.Decide.{ℕ-discrete}
+use mathlib.Core.List.{List}
 use native.Mathlib.Numerals.{add-one}
 use native.Mathlib.Omega.{arith}
-use lib.ListN.{length, getD, drop, length-append, List·getD-append}
-use lib.Seq.{getD-at}
+use lib.ListN.{length, getD, drop}
 use borrow.Author.Tests.{lt-ltb, le-ltb}
 use Rattle.sets.specs.Rows.{rowWords, rowsOf, asRow}
 use Rattle.sets.proofs.RowValues.{row-again}
@@ -21,24 +18,8 @@ use Rattle.files.specs.Rows.{listTo}
 use Rattle.files.specs.Files.{countIn, cellIn}
 use Rattle.files.specs.Reading.{judged, filled}
 use Rattle.files.specs.RowByRow.{stepAt, cursor, handedOut}
+use Rattle.files.proofs.RowLaws.{length-list, list-at}
 use Rattle.files.proofs.ReadFiles.{readable}
-
--- ---- a list of the first n, at a place
-
-length-list : (f : ℕ → ℕ) (n : ℕ) → length (listTo f n) ≡ n
-unfolding listTo
-length-list f zero = refl
-length-list f (suc n) =
-    let e : length (listTo f n ++ (f n ∷ [])) ≡ length (listTo f n) + 1 = length-append (listTo f n) (f n ∷ []) in
-    omega (arith, length-list f n)
-
-list-at : (f : ℕ → ℕ) (n i : ℕ) → i < n → getD (listTo f n) i zero ≡ f i
-unfolding listTo
-list-at f zero i h = absurd (not-suc-le-zero h)
-list-at f (suc n) i h = elim (ℕ-discrete i n) [
-  | yes e ↦ rw e (getD-at (listTo f n) (f n) [] zero n (length-list f n))
-  | no ne ↦ List·getD-append (listTo f n) (f n ∷ []) zero i (omega (arith, length-list f n)) ∙ list-at f n i (omega arith)
-]
 
 -- ---- a file that is read
 

@@ -1,19 +1,42 @@
--- The first n rows: one more of them, when their values together are none, and what the lowest that passes a test is. Assumes nothing.
+-- The first n rows: the list of them, one more of them, when their values together are none, and what the lowest that passes a test is.
+-- Assumes nothing.
 use Prim.Native.Nat.{ℕ, zero, suc, _+_, _<_}
 use mathlib.Core.Path.{_≡_, refl, ap, _∙_}
 use mathlib.Core.Logic.{inl, inr}
 use mathlib.Core.Bool.{Bool, true, false, _&&_}
+use mathlib.Core.List.{[], _∷_, _++_}
+use native.Mathlib.Nat.{not-suc-le-zero}
+use native.Mathlib.Decide.{ℕ-discrete}
 use native.Mathlib.Omega.{arith}
 use native.Mathlib.Numerals.{add-one}
 use lib.Bits.{bitOr, or-add-and, and-le-l, and-le-r, or-zero-r}
 use lib.Dec.{eqb}
+use lib.ListN.{length, getD, length-append, List·getD-append}
+use lib.Seq.{getD-at}
 use borrow.Author.Tests.{eq-eqb, eqb-true}
 use Rattle.sets.specs.declared.Found.{Found}
 use Rattle.sets.specs.declared.Found.the-variants.{At, Nothing}
 use Rattle.sets.proofs.Bools.{and-left, and-right, and-both, bool-ext}
 use Rattle.sheet.specs.Upto.{allTo}
 use Rattle.sheet.proofs.UptoLaws.{top-or-below}
-use Rattle.files.specs.Rows.{unionTo, orAt, lowestTo}
+use Rattle.files.specs.Rows.{listTo, unionTo, orAt, lowestTo}
+
+-- ---- a list of the first n, at a place
+
+pub length-list : (f : ℕ → ℕ) (n : ℕ) → length (listTo f n) ≡ n
+unfolding listTo
+length-list f zero = refl
+length-list f (suc n) =
+    let e : length (listTo f n ++ (f n ∷ [])) ≡ length (listTo f n) + 1 = length-append (listTo f n) (f n ∷ []) in
+    omega (arith, length-list f n)
+
+pub list-at : (f : ℕ → ℕ) (n i : ℕ) → i < n → getD (listTo f n) i zero ≡ f i
+unfolding listTo
+list-at f zero i h = absurd (not-suc-le-zero h)
+list-at f (suc n) i h = elim (ℕ-discrete i n) [
+  | yes e ↦ rw e (getD-at (listTo f n) (f n) [] zero n (length-list f n))
+  | no ne ↦ List·getD-append (listTo f n) (f n ∷ []) zero i (omega (arith, length-list f n)) ∙ list-at f n i (omega arith)
+]
 
 -- ---- their values together
 
@@ -48,6 +71,12 @@ pub lowest-pass : (f : ℕ → Bool) (n : ℕ) → lowestTo f n ≡ Nothing → 
 unfolding lowestTo
 lowest-pass f n none e = rw (add-one n, none, e) refl
 
+-- none is found where none passes
+pub lowest-none : (f : ℕ → Bool) (n : ℕ) → ((j : ℕ) → j < n → f j ≡ false) → lowestTo f n ≡ Nothing
+unfolding lowestTo
+lowest-none f zero p = refl
+lowest-none f (suc n) p = rw (lowest-none f n (λ j h. p j (omega arith)), p n (omega arith)) refl
+
 -- what was found stays found
 pub lowest-stays : (f : ℕ → Bool) (n k i : ℕ) → lowestTo f n ≡ At i → lowestTo f (k + n) ≡ At i
 unfolding lowestTo
@@ -79,3 +108,7 @@ says f (suc n) = go (lowestTo f n) (f n) refl (says f n)
 
 pub lowest-says : (f : ℕ → Bool) (n i : ℕ) → lowestTo f n ≡ At i → Lowest f n i
 lowest-says f n i e = rw e at (says f n)
+
+-- and none passes where none is found
+pub none-passes : (f : ℕ → Bool) (n : ℕ) → lowestTo f n ≡ Nothing → (j : ℕ) → j < n → f j ≡ false
+none-passes f n e = rw e at (says f n)

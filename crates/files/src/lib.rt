@@ -1,4 +1,4 @@
-// Lesson files: a table out of bytes, all at once or row by row.
+// Lesson files: a table out of bytes, all at once or row by row, and into bytes.
 ghost use mathlib.Core.Path.{_≡_};
 ghost use Prim.Native.Nat.{_≤_, _<_, _+_, _*_};
 ghost use mathlib.Core.Bool.{cond};
@@ -9,12 +9,16 @@ ghost use Rattle.sets.specs.Rows.{rowWords, bits, Holds, rowsOf, inWords};
 ghost use Rattle.files.specs.Files.{countIn, cellIn, cellsIn};
 ghost use Rattle.files.specs.Reading.{readAnswer, filled};
 ghost use Rattle.files.specs.RowByRow.{stepAt};
+ghost use Rattle.files.specs.Writing.{writeAnswer, bufferAfter};
 use refusals::Refusal;
+use refusals::tables::Judged;
 use sets::Row;
+use sheet::Sheet;
 
 mod numbers; // numbers.rt: numbers in bytes, and the rows of a file
 mod judge; // judge.rt: refusals 20 to 27
 mod reader; // reader.rt: row by row
+mod writer; // writer.rt: a table's bytes, put into a buffer
 
 pub use reader::Reader;
 pub use reader::take;
@@ -22,6 +26,12 @@ pub use reader::take;
 // A file that is read has d values and T rows.
 pub enum Lesson {
     Read(usize, usize),
+    Refused(Refusal),
+}
+
+// A table that is saved takes so many bytes.
+pub enum Saved {
+    Length(usize),
     Refused(Refusal),
 }
 
@@ -106,5 +116,26 @@ pub fn step_at(file: &[u8], at: usize) -> Step
             row: NextRow::NoMore,
             next: at,
         },
+    }
+}
+
+// A table as a lesson file at the front of a lent buffer: the file's length, or the lowest refusal, with nothing written.
+pub fn write(d: usize, table: &[u64], buffer: &mut [u8]) -> Saved
+    ensures { λ r. ⌜ (r ≡ writeAnswer d (rowsOf (now (table .entry))) (length (now (buffer .entry))))
+        × (now (buffer .exit) ≡ bufferAfter d (rowsOf (now (table .entry))) (now (buffer .entry)) r) ⌝ }
+{
+    let judged = refusals::tables::judge(table, d, Sheet::ROWS);
+    match judged {
+        Judged::Right => {
+            let t = sets::row_count(table);
+            let length = 8 + 8 * t;
+            if buffer.len() < length {
+                return Saved::Refused(Refusal::ShortBuffer);
+            }
+            writer::put_header(buffer, d, t);
+            writer::put_rows(buffer, table);
+            Saved::Length(length)
+        }
+        Judged::Refused(refusal) => Saved::Refused(refusal),
     }
 }

@@ -1,0 +1,201 @@
+-- Reading what was written: a table that is saved is read back as itself, at once and row by row, from its file alone and from the whole buffer.
+-- Assumes nothing.
+use Prim.Native.Nat.{ℕ, zero, suc, _+_, _*_, _^_, _≤_, _<_}
+use mathlib.Core.Path.{_≡_, refl, sym, ap, ap₂, _∙_, subst}
+use mathlib.Core.Logic.{_≢_}
+use mathlib.Core.Bool.{Bool, false, not, cond, _&&_, _||_}
+use mathlib.Core.List.{List, [], _∷_, _++_, append-nil, append-assoc}
+use native.Mathlib.Nat.{not-suc-le-zero, le-of-suc-le-suc, le-trans}
+use native.Mathlib.Omega.{arith}
+use lib.Dec.{eqb, leb, ltb}
+use lib.ListN.{length, getD, take, drop, length-append, List·getD-append}
+use lib.Pow.{pow-mono}
+use lib.Seq.{ext-getD, take-at}
+use borrow.Author.Tests.{leb-true, eqb-true, eqb-false, not-true, eq-eqb, ne-eqb, le-ltb}
+use Rattle.sets.specs.declared.Found.the-variants.{Nothing}
+use Rattle.sets.specs.Limits.{mostValues, mostRows}
+use Rattle.sets.specs.Sets.{below, within}
+use Rattle.sets.specs.Rows.{rowWords, width, rowsOf, inWords, asRow}
+use Rattle.sets.proofs.Bools.{and-left, and-right, is-false}
+use Rattle.sets.proofs.ValuesBelow.{within-less}
+use Rattle.sets.proofs.BadRows.{AllWithin, bad-row-none}
+use Rattle.sets.proofs.LentRows.{rows-append, rows-drop, words-length, Narrow, narrow-each, rows-words}
+use Rattle.sheet.specs.Upto.{allTo}
+use Rattle.sheet.proofs.UptoLaws.{all-at}
+use Rattle.refusals.specs.declared.Refusal.the-variants.{FewPlaces}
+use Rattle.refusals.specs.Cases.{found}
+use Rattle.refusals.proofs.Outcomes.{NoneApplies, stands}
+use Rattle.refusals.proofs.TablesJudged.{TableRight}
+use Rattle.files.specs.declared.Lesson.the-variants.{Read}
+use Rattle.files.specs.declared.Lesson.the-variants as lesson
+use Rattle.files.specs.declared.Saved.the-variants.{Length, Refused}
+use Rattle.files.specs.declared.NextRow.the-variants.{Cell, NoMore}
+use Rattle.files.specs.Bytes.{big, inBytes}
+use Rattle.files.specs.Files.{markIn, versionIn, valuesIn, countIn, rowIn, unionIn, cellIn, cellsIn}
+use Rattle.files.specs.FileCases.{frontCases, rowOver, rowCases, fileCases}
+use Rattle.files.specs.Reading.{judged, readAnswer, filled}
+use Rattle.files.specs.RowByRow.{handedOut}
+use Rattle.files.specs.Writing.{header, rowBytes, fileOf, writeAnswer, bufferAfter}
+use Rattle.files.proofs.ByteLaws.{cap, bytes-length, big-again}
+use Rattle.files.proofs.TableBytes.{file-length}
+use Rattle.files.proofs.RowLaws.{length-list, list-at, lowest-none}
+use Rattle.files.proofs.ReadFiles.{then-places}
+use Rattle.files.proofs.TablesSaved.{saved-right}
+use Rattle.files.proofs.ReaderTurns.{rows-in-turn, then-no-more}
+
+-- the file is read as d and exactly these rows, at once and row by row
+pub record ReadAs (d : ℕ) (table file : List ℕ) : Type 0 where
+  pub answers : (places : ℕ) → length table ≤ places → readAnswer file places ≡ Read d (length table)
+  pub fills : (list : List ℕ) → length table ≤ length (rowsOf list)
+      → rowsOf (filled file list (Read d (length table))) ≡ table ++ drop (length table) (rowsOf list)
+  pub hands-out : (i : ℕ) → i < length table → handedOut file i ≡ Cell (asRow (getD table i 0))
+  pub then-none : (k : ℕ) → handedOut file (k + length table) ≡ NoMore
+
+-- ---- the bytes of a table
+
+-- each row is read again, whatever stands before the rows and behind them
+row-again : (table before rest : List ℕ) (i : ℕ) → i < length table → getD table i 0 < cap 8
+    → big (before ++ rowBytes table ++ rest) (length before + 8 * i) 8 ≡ getD table i 0
+unfolding rowBytes
+row-again [] before rest i h small = absurd (not-suc-le-zero h)
+row-again (r ∷ rows) before rest zero h small =
+    let first : length before + 8 * zero ≡ length before = omega arith in
+    ap₂ (λ (l : List ℕ) (k : ℕ). big (l ++ rest) k 8) (sym (append-assoc before (inBytes 8 r) (rowBytes rows))) first
+    ∙ ap (λ (l : List ℕ). big l (length before) 8) (append-assoc (before ++ inBytes 8 r) (rowBytes rows) rest)
+    ∙ big-again 8 r before (rowBytes rows ++ rest) small
+row-again (r ∷ rows) before rest (suc i) h small =
+    let front = before ++ inBytes 8 r in
+    let later : length before + 8 * suc i ≡ length front + 8 * i = omega (arith, length-append before (inBytes 8 r), bytes-length 8 r) in
+    ap₂ (λ (l : List ℕ) (k : ℕ). big (l ++ rest) k 8) (sym (append-assoc before (inBytes 8 r) (rowBytes rows))) later
+    ∙ row-again rows front rest i (le-of-suc-le-suc h) small
+
+-- ---- the rows of a table that is right
+
+module _ (d : ℕ) (table : List ℕ) (right : TableRight mostRows d table) where
+  all-within : AllWithin d table
+  all-within = bad-row-none d table (right .none-bad)
+
+  row-less : (i : ℕ) → i < length table → getD table i 0 < 2 ^ width
+  row-less i h = le-trans (within-less d (getD table i 0) (all-within i h)) (pow-mono (right .values))
+
+  pub right-narrow : Narrow table
+  right-narrow = narrow-each table row-less
+
+-- ---- its file, whatever stands behind it
+
+module _ (d : ℕ) (table rest : List ℕ) (right : TableRight mostRows d table) where
+  abbrev file : List ℕ
+  file = fileOf d table ++ rest
+
+  abbrev t : ℕ
+  t = length table
+
+  -- ---- what it says
+
+  mark : markIn file ≡ 0x505654
+  unfolding fileOf header inBytes big
+  mark = refl
+
+  version : versionIn file ≡ 1
+  unfolding fileOf header inBytes big
+  version = refl
+
+  values : valuesIn file ≡ d
+  unfolding fileOf header inBytes cap
+  values = big-again 1 d (inBytes 3 0x505654 ++ inBytes 2 1) (inBytes 2 t ++ rowBytes table ++ rest) (omega (arith, right .values))
+
+  count : countIn file ≡ t
+  unfolding fileOf header inBytes cap
+  count = big-again 2 t (inBytes 3 0x505654 ++ inBytes 2 1 ++ inBytes 1 d) (rowBytes table ++ rest) (omega (arith, right .small))
+
+  row : (i : ℕ) → i < t → rowIn file i ≡ getD table i 0
+  unfolding fileOf header inBytes cap
+  row i h = row-again table (header d t) rest i h (row-less d table right i h)
+
+  row-not : (i : ℕ) → i < t → rowIn file i ≢ zero
+  unfolding within
+  row-not i h e =
+      let r = getD table i 0 in
+      eqb-false r zero (not-true (eqb r zero) (and-left (not (eqb r zero)) (below d r) (all-within d table right i h))) (sym (row i h) ∙ e)
+
+  -- a row is never zero, so each cell is its row
+  cells : cellsIn file ≡ table
+  unfolding cellIn
+  cells =
+      let long : length (cellsIn file) ≡ t = length-list (cellIn file) (countIn file) ∙ count in
+      ext-getD zero (cellsIn file) table long (λ i h.
+      let here : i < t = omega (arith, h, long) in
+      list-at (cellIn file) (countIn file) i (omega (arith, here, count))
+      ∙ ap (λ (b : Bool). cond b (unionIn file) (rowIn file i)) (ne-eqb (rowIn file i) zero (row-not i here)) ∙ row i here)
+
+  -- ---- it is read
+
+  whole : length file ≡ 8 + 8 * t + length rest
+  whole = length-append (fileOf d table) rest ∙ ap (λ (n : ℕ). n + length rest) (file-length d table)
+
+  none-over : rowOver file ≡ Nothing
+  unfolding within
+  none-over = lowest-none (λ i. not (below (valuesIn file) (rowIn file i))) (countIn file) (λ i h.
+      let here : i < t = omega (arith, h, count) in
+      let r = getD table i 0 in
+      ap not ((λ j. below (values j) (row i here j)) ∙ and-right (not (eqb r zero)) (below d r) (all-within d table right i here)))
+
+  -- with a row, not all are zero
+  abbrev none-known : Bool
+  none-known = allTo (λ i. eqb (rowIn file i) zero) (countIn file)
+
+  some-known : (leb 1 (countIn file) && none-known) ≡ false
+  some-known = is-false (leb 1 (countIn file) && none-known) (λ e.
+      let some : 1 ≤ countIn file = leb-true 1 (countIn file) (and-left (leb 1 (countIn file)) none-known e) in
+      let first = all-at (λ i. eqb (rowIn file i) zero) (countIn file) (and-right (leb 1 (countIn file)) none-known e) zero some in
+      row-not zero (omega (arith, some, count)) (eqb-true (rowIn file zero) zero first))
+
+  none-applies : NoneApplies (fileCases file)
+  unfolding frontCases rowCases
+  none-applies =
+      let front : ltb (length file) 8 ≡ false = le-ltb (length file) 8 (omega (arith, whole)) in
+      let marked = ap not (eq-eqb (markIn file) 0x505654 mark) in
+      let first = ap not (eq-eqb (versionIn file) 1 version) in
+      let some : eqb d zero ≡ false = ne-eqb d zero (λ e. omega (arith, right .some-value)) in
+      let column : (eqb (valuesIn file) zero || ltb mostValues (valuesIn file)) ≡ false = rw (values, some) (le-ltb mostValues d (right .values)) in
+      let few : ltb mostRows (countIn file) ≡ false = le-ltb mostRows (countIn file) (omega (arith, count, right .small)) in
+      let all : ltb (length file) (8 + 8 * countIn file) ≡ false = le-ltb (length file) (8 + 8 * countIn file) (omega (arith, count, whole)) in
+      (front, (marked, (first, (column, (few, (all, (ap found none-over, (some-known, tt))))))))
+
+  read : judged file ≡ Read d t
+  unfolding judged
+  read = stands lesson.Refused (fileCases file) none-applies (Read (valuesIn file) (countIn file)) ∙ (λ i. Read (values i) (count i))
+
+  -- ---- at once, and row by row
+
+  fills-list : (list : List ℕ) → t ≤ length (rowsOf list) → rowsOf (filled file list (Read d t)) ≡ table ++ drop t (rowsOf list)
+  fills-list list h =
+      ap (λ (l : List ℕ). rowsOf (inWords l ++ drop (t * rowWords) list)) cells
+      ∙ rows-append t (inWords table) (drop (t * rowWords) list) (words-length table)
+      ∙ ap₂ (λ (a b : List ℕ). a ++ b) (rows-words table (right-narrow d table right)) (rows-drop t list h)
+
+  pub read-back : ReadAs d table file
+  read-back = record {
+    answers = λ places h. then-places file places d t read ∙ ap (λ (b : Bool). cond b (lesson.Refused FewPlaces) (Read d t)) (le-ltb places t h);
+    fills = fills-list;
+    hands-out = λ i h.
+        let room : t ≤ length (rowsOf (inWords table)) = omega (arith, ap length (rows-words table (right-narrow d table right))) in
+        rows-in-turn file d t read (inWords table) i h
+        ∙ ap (λ (l : List ℕ). Cell (asRow (getD l i 0))) (fills-list (inWords table) room)
+        ∙ ap (λ (n : ℕ). Cell (asRow n)) (List·getD-append table (drop t (rowsOf (inWords table))) 0 i h);
+    then-none = then-no-more file d t read;
+  }
+
+-- ---- a table that is saved
+
+module _ (d : ℕ) (table buffer : List ℕ) (n : ℕ) (saved : writeAnswer d table (length buffer) ≡ Length n) where
+  right : TableRight mostRows d table
+  right = saved-right d table (length buffer) n saved .0
+
+  alone : take n (fileOf d table ++ drop n buffer) ≡ fileOf d table ++ []
+  alone =
+      take-at (fileOf d table) (drop n buffer) n (file-length d table ∙ sym (saved-right d table (length buffer) n saved .1))
+      ∙ sym (append-nil (fileOf d table))
+
+  pub reading-what-was-written : let after = bufferAfter d table buffer (Length n) in ReadAs d table (take n after) × ReadAs d table after
+  reading-what-was-written = (subst (ReadAs d table) (sym alone) (read-back d table [] right), read-back d table (drop n buffer) right)
