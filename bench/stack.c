@@ -14,6 +14,7 @@ enum { VALUES = FOLIOKETTLE_VALUES, ROWS = FOLIOKETTLE_ROWS, VIEW = FOLIOKETTLE_
 
 /* What a call is lent and what it hands back, all of it off the painted stack. */
 static uint64_t view[VIEW], kind, n;
+static uint8_t file[FOLIOKETTLE_FILE];
 static size_t list[VIEW];
 static foliokettle_sheet sheet;
 static foliokettle_handed handed;
@@ -32,6 +33,16 @@ static void call(void)
 static void alter(void)
 {
     told = foliokettle_alter(&sheet, view, ROWS, VALUES, 0, kind, n, list, VIEW);
+}
+
+static void read_file(void)
+{
+    told = foliokettle_read(file, sizeof file, view, VIEW);
+}
+
+static void write_file(void)
+{
+    told = foliokettle_write(VALUES, view, ROWS, file, sizeof file);
 }
 
 static void distinct(void)
@@ -86,6 +97,9 @@ int main(void)
         if (handed.told.refusal != 0 || told.refusal != 0) fail("a call is refused");
     }
     printf("| distinct of no desk | %zu | |\n", stack_of(distinct));
+    printf("| write a file | %zu | |\n", stack_of(write_file));
+    printf("| read a file | %zu | |\n", stack_of(read_file));
+    if (told.refusal != 0) fail("a file is refused");
     printf("stack: at most %zu bytes; %d are said to be enough\n", most, FOLIOKETTLE_STACK);
     if (most > FOLIOKETTLE_STACK) fail("that is not enough");
     return 0;

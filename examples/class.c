@@ -1,18 +1,21 @@
-/* A small class server in C: three desks play on a table of five cells, and what each is told is printed, and what
-   stands on the sheet. `examples/run` compares that with class.out: every field and every parameter that crosses to the
-   library is used, and every refusal is met that can be, so that none can change its place unseen. */
+/* A small class server in C: it loads a table of five cells from a lesson file, three desks play on it, and it saves
+   the table. What each desk is told is printed, and what stands on the sheet. `examples/run` compares that with
+   class.out: every field and every parameter that crosses to the library is used, and every refusal is met that can be,
+   so that none can change its place unseen. */
 #include "../include/foliokettle.h"
 
 #include <inttypes.h>
 #include <stdbool.h>
 #include <stdio.h>
+#include <string.h>
 
-enum { VALUES = 4, ROWS = 5, DESKS = 3 };
+enum { DESKS = 3 };
 
-/* Cells over the values a, b, c and d: a set is a number read as bits, a its lowest. */
+/* Sets over the values a, b, c and d: a number read as bits, a its lowest. */
 enum { A = 1, B = 2, C = 4, D = 8 };
 
-static const uint64_t cells[ROWS] = {A, A | B, A | B, C | D, B | C | D};
+/* The teacher's table, as it was loaded. */
+static uint64_t cells[FOLIOKETTLE_ROWS];
 
 /* What the server keeps: the teacher's table, room for a list of positions, and the one sheet. */
 typedef struct {
@@ -48,11 +51,23 @@ static void print_refusal(foliokettle_told told)
         [FOLIOKETTLE_SHORT_LIST] = "the list has fewer places than the view has rows",
         [FOLIOKETTLE_LONG_VIEW] = "the view has over 320 rows",
         [FOLIOKETTLE_BAD_DESKS] = "a class has 1 to 32 desks",
+        [FOLIOKETTLE_SHORT_FILE] = "the file has no header",
+        [FOLIOKETTLE_WRONG_MARK] = "that is no lesson file",
+        [FOLIOKETTLE_WRONG_VERSION] = "the file is of another version",
+        [FOLIOKETTLE_BAD_VALUES] = "the file's column has no values or over 64",
+        [FOLIOKETTLE_MANY_ROWS] = "the file has too many rows",
+        [FOLIOKETTLE_CUT_SHORT] = "the file is cut short",
+        [FOLIOKETTLE_ROW_OVER] = "a row of the file has a value that the column has not",
+        [FOLIOKETTLE_ALL_UNKNOWN] = "all cells of the file are unknown",
+        [FOLIOKETTLE_FEW_PLACES] = "the file has more rows than there are places",
+        [FOLIOKETTLE_SHORT_BUFFER] = "the buffer is too short for the file",
     };
     if (told.refusal == FOLIOKETTLE_NO_CALL) printf("refused: that is no call");
-    else if (told.refusal > FOLIOKETTLE_BAD_DESKS) printf("refused with a number that is none");
+    else if (told.refusal >= sizeof reasons / sizeof *reasons || reasons[told.refusal] == NULL)
+        printf("refused with a number that is none");
     else printf("refused with %" PRIu64 ": %s", told.refusal, reasons[told.refusal]);
-    if (told.refusal == FOLIOKETTLE_BAD_ROW) printf(", row %" PRIu64, told.first);
+    if (told.refusal == FOLIOKETTLE_BAD_ROW || told.refusal == FOLIOKETTLE_ROW_OVER)
+        printf(", row %" PRIu64, told.first);
 }
 
 static void print_told(uint64_t kind, foliokettle_told told, const size_t *list)
@@ -100,7 +115,7 @@ static void print_sheet(const foliokettle_sheet *sheet)
     }
 }
 
-/* ---- the four functions of the library */
+/* ---- the functions of the library */
 
 /* Whether a class begins. Where it does not, there is no sheet to play on. */
 static bool begin(server *s, size_t desks)
@@ -145,6 +160,54 @@ static void look_over(server *s)
     print_told(FOLIOKETTLE_DISTINCT, foliokettle_distinct(s->d, s->table, s->rows, s->list, s->places), s->list);
 }
 
+/* The rows of a lesson file, of which no more than fit are read. */
+static foliokettle_told read_rows(const uint8_t *file, size_t length, size_t places)
+{
+    foliokettle_told told = foliokettle_read(file, length, cells, places);
+    printf("read: %zu bytes, %zu places - ", length, places);
+    if (told.refusal != 0) print_refusal(told);
+    else printf("%" PRIu64 " values, %" PRIu64 " rows", told.first, told.second);
+    printf("\n");
+    return told;
+}
+
+static foliokettle_told write_file(const server *s, uint8_t *buffer, size_t room)
+{
+    foliokettle_told told = foliokettle_write(s->d, s->table, s->rows, buffer, room);
+    printf("write: %zu rows, %zu values, %zu bytes of room - ", s->rows, s->d, room);
+    if (told.refusal != 0) print_refusal(told);
+    else printf("%" PRIu64 " bytes", told.first);
+    printf("\n");
+    return told;
+}
+
+/* ---- the teacher's file */
+
+/* As much of a file as is looked at. */
+static uint8_t bytes[FOLIOKETTLE_FILE];
+
+static bool load(server *s, const char *name)
+{
+    FILE *stream = fopen(name, "rb");
+    if (stream == NULL) return false;
+    size_t length = fread(bytes, 1, sizeof bytes, stream);
+    fclose(stream);
+    foliokettle_told told = read_rows(bytes, length, FOLIOKETTLE_ROWS);
+    s->table = cells;
+    s->d = told.first;
+    s->rows = told.second;
+    return told.refusal == 0;
+}
+
+static bool save(const server *s, const char *name)
+{
+    foliokettle_told told = write_file(s, bytes, sizeof bytes);
+    FILE *stream = told.refusal == 0 ? fopen(name, "wb") : NULL;
+    if (stream == NULL) return false;
+    bool whole = fwrite(bytes, 1, told.first, stream) == told.first;
+    return fclose(stream) == 0 && whole;
+}
+
 /* ---- what is played */
 
 /* What a desk does alters what DISTINCT keeps in its view, and in no other. */
@@ -176,13 +239,13 @@ static void refusals(server *s)
     play(s, 1, FOLIOKETTLE_DELETE_TABLE, 3);
     play(s, 1, FOLIOKETTLE_DELETE_TABLE, 3);
     play(s, 1, FOLIOKETTLE_LOOK, 4);
-    play(s, 1, FOLIOKETTLE_INSERT, 1 << VALUES);
+    play(s, 1, FOLIOKETTLE_INSERT, UINT64_C(1) << s->d);
     play(s, DESKS, FOLIOKETTLE_COUNT, 0);
     play(s, 1, FOLIOKETTLE_DISTINCT + 1, 0);
     server other = *s;
     other.places = 3;
     play(&other, 1, FOLIOKETTLE_DISTINCT, 0);
-    other.rows = ROWS - 1;
+    other.rows = s->rows - 1;
     play(&other, 1, FOLIOKETTLE_COUNT, 0);
     other.sheet.owners[0] = 77;
     play(&other, 1, FOLIOKETTLE_COUNT, 0);
@@ -193,9 +256,8 @@ static void refusals(server *s)
 }
 
 /* Tables and desks that no class begins with, and DISTINCT over a table without a class. */
-static void tables(void)
+static void tables(server s)
 {
-    server s = {.table = cells, .rows = ROWS, .d = VALUES, .places = FOLIOKETTLE_VIEW};
     begin(&s, FOLIOKETTLE_DESKS + 1);
     play(&s, 0, FOLIOKETTLE_COUNT, 0);
     look_over(&s);
@@ -212,20 +274,19 @@ static void tables(void)
 /* No table and no list: NULL is lent, with the length 0. */
 static void nothing(void)
 {
-    server s = {.table = NULL, .rows = 0, .d = VALUES, .places = 0};
+    server s = {.table = NULL, .rows = 0, .d = 4, .places = 0};
     if (!begin(&s, 1)) return;
     play(&s, 0, FOLIOKETTLE_COUNT, 0);
     play(&s, 0, FOLIOKETTLE_DISTINCT, 0);
     printf("distinct of NULL - ");
-    print_told(FOLIOKETTLE_DISTINCT, foliokettle_distinct(VALUES, NULL, 0, NULL, 0), NULL);
+    print_told(FOLIOKETTLE_DISTINCT, foliokettle_distinct(s.d, NULL, 0, NULL, 0), NULL);
     play(&s, 0, FOLIOKETTLE_INSERT, A);
     play(&s, 0, FOLIOKETTLE_LOOK, 0);
 }
 
 /* Desks that put in rows until they are refused; the count of places only ends what would go on for ever. */
-static void crowd(void)
+static void crowd(server s)
 {
-    server s = {.table = cells, .rows = ROWS, .d = VALUES, .places = FOLIOKETTLE_VIEW};
     if (!begin(&s, FOLIOKETTLE_DESKS)) return;
     for (size_t desk = 0; desk < 6; desk++) {
         int got = 0;
@@ -237,14 +298,53 @@ static void crowd(void)
     }
 }
 
-int main(void)
+/* The file as it is but for one byte. */
+static void spoil(const uint8_t *file, size_t length, size_t place, uint8_t byte)
 {
-    server s = {.table = cells, .rows = ROWS, .d = VALUES, .places = FOLIOKETTLE_VIEW};
+    uint8_t other[FOLIOKETTLE_FILE];
+    memcpy(other, file, length);
+    other[place] = byte;
+    printf("byte %zu is %d, ", place, byte);
+    read_rows(other, length, FOLIOKETTLE_ROWS);
+}
+
+/* A saved file, read again, gives back the table; and files and tables that are not taken. */
+static void files(server s)
+{
+    uint8_t file[FOLIOKETTLE_FILE];
+    size_t length = write_file(&s, file, sizeof file).first;
+    memset(cells, 0, sizeof cells);
+    read_rows(file, length, s.rows);
+    for (size_t row = 0; row < s.rows; row++) print_set(cells[row]);
+    printf("\n");
+    spoil(file, length, 2, 'U');
+    spoil(file, length, 4, 2);
+    spoil(file, length, 5, 0);
+    spoil(file, length, 6, 2);
+    spoil(file, length, 39, 1 << 4);
+    read_rows(file, length - 1, s.rows);
+    read_rows(file, 7, s.rows);
+    read_rows(file, length, s.rows - 1);
+    memset(file + 8, 0, length - 8);
+    read_rows(file, length, s.rows);
+    write_file(&s, file, length - 1);
+    s.d = 2;
+    write_file(&s, file, length);
+    s.d = FOLIOKETTLE_VALUES + 1;
+    write_file(&s, file, length);
+}
+
+/* class LESSON SAVED */
+int main(int count, char **names)
+{
+    static server s = {.places = FOLIOKETTLE_VIEW};
+    if (count != 3 || !load(&s, names[1])) return 1;
     if (!begin(&s, DESKS)) return 1;
     own_changes(&s);
     refusals(&s);
-    tables();
+    tables(s);
     nothing();
-    crowd();
-    return 0;
+    crowd(s);
+    files(s);
+    return save(&s, names[2]) ? 0 : 1;
 }

@@ -2,12 +2,12 @@
    Linux and wants nothing but memcpy and memset. docs/HANDBOOK.md tells what the calls do.
 
    What a host has to see to:
-   - Pointers are valid for their lengths, which count elements; NULL will do where the length is 0. The table, the list
-     and the sheet that are lent to a call lie apart from each other.
+   - Pointers are valid for their lengths, which count elements; NULL will do where the length is 0. What is lent to one
+     call (table, list, sheet, file, rows, buffer) lies apart from each other.
    - FOLIOKETTLE_STACK bytes of stack are left on the thread that calls.
    - A pupil calls from his own desk, on the sheet of his own class: the store can't know who asks.
-   Nothing has to be promised about tables, sheets, desks, numbers or list lengths: bad ones are refused by number. The
-   library keeps nothing between calls, so threads may call at once, as long as none writes what another uses. */
+   Nothing has to be promised about tables, sheets, files, desks, numbers or lengths: bad ones are refused by number.
+   The library keeps nothing between calls, so threads may call at once, as long as none writes what another uses. */
 #ifndef FOLIOKETTLE_H
 #define FOLIOKETTLE_H
 
@@ -28,7 +28,8 @@ enum {
     FOLIOKETTLE_HELD = 64,    /* own rows that a desk may hold */
     FOLIOKETTLE_PROMISED = 8, /* own rows that a desk always has room for */
     FOLIOKETTLE_VIEW = FOLIOKETTLE_ROWS + FOLIOKETTLE_HELD,   /* rows of a view: so many places do for any list */
-    FOLIOKETTLE_WORDS = FOLIOKETTLE_ROWS / FOLIOKETTLE_VALUES /* of a desk's marks */
+    FOLIOKETTLE_WORDS = FOLIOKETTLE_ROWS / FOLIOKETTLE_VALUES, /* of a desk's marks */
+    FOLIOKETTLE_FILE = 8 + 8 * FOLIOKETTLE_ROWS                /* bytes of a lesson file: so many do for any table */
 };
 
 /* Bytes of stack that are enough for any call. 60 KB were measured; `bench/run stack` measures again. */
@@ -45,7 +46,7 @@ typedef struct {
 } foliokettle_sheet;
 
 /* `refusal` is 0 where the call is accepted; then `first` and `second` are what it answers, 0 where it answers less.
-   Where it is refused, both are 0, but for FOLIOKETTLE_BAD_ROW: then `first` is the row. */
+   Where it is refused, both are 0, but for FOLIOKETTLE_BAD_ROW and FOLIOKETTLE_ROW_OVER: then `first` is the row. */
 typedef struct {
     uint64_t refusal, first, second;
 } foliokettle_told;
@@ -66,7 +67,7 @@ enum {
     FOLIOKETTLE_DISTINCT      /* fills the front of the list with the kept positions and answers their number */
 };
 
-/* Why a call is refused: the lowest number that applies. A refused call changes no sheet and no list. */
+/* Why a call is refused: the lowest number that applies. A refused call changes nothing that is lent. */
 enum {
     FOLIOKETTLE_TOO_LARGE = 1,  /* d is 0 or above 64, or the table has over 256 rows */
     FOLIOKETTLE_BAD_ROW,        /* a table row is empty or has a value d or above; the lowest such row is told */
@@ -80,7 +81,19 @@ enum {
     FOLIOKETTLE_NO_ROOM,        /* the desk has its promised 8, and the free places are promised to others */
     FOLIOKETTLE_SHORT_LIST,     /* the list has fewer places than the view has rows */
     FOLIOKETTLE_LONG_VIEW,      /* the view has over 320 rows; never given, since 256 and 64 are 320 */
-    FOLIOKETTLE_BAD_DESKS       /* desks is 0 or above 32 */
+    FOLIOKETTLE_BAD_DESKS,      /* desks is 0 or above 32 */
+
+    FOLIOKETTLE_SHORT_FILE = 20, /* the file has fewer than 8 bytes */
+    FOLIOKETTLE_WRONG_MARK,      /* it does not begin with "PVT" */
+    FOLIOKETTLE_WRONG_VERSION,   /* its version is not 1 */
+    FOLIOKETTLE_BAD_VALUES,      /* its d is 0 or above 64 */
+    FOLIOKETTLE_MANY_ROWS,       /* it says that it has over 256 rows */
+    FOLIOKETTLE_CUT_SHORT,       /* it has fewer rows than it says */
+    FOLIOKETTLE_ROW_OVER,        /* a row has a value d or above; the lowest such row is told */
+    FOLIOKETTLE_ALL_UNKNOWN,     /* it has rows, and all of them are unknown */
+    FOLIOKETTLE_FEW_PLACES,      /* there are fewer places than it has rows */
+
+    FOLIOKETTLE_SHORT_BUFFER = 30 /* the buffer has fewer bytes than the table's file takes */
 };
 
 /* The refusal of a kind that is none of the above, before anything else is looked at. */
@@ -105,6 +118,16 @@ foliokettle_told foliokettle_alter(foliokettle_sheet *sheet, const uint64_t *tab
    number. The view is judged as a table is, but for 320 rows in the place of 256: it is refused with 1, with 2, where
    `first` is the row, or with 11. */
 foliokettle_told foliokettle_distinct(size_t d, const uint64_t *view, size_t rows, size_t *list, size_t places);
+
+/* A lesson file becomes a table: its rows go to the front of `rows`, an unknown cell as all values of the file's rows
+   together; `first` is d and `second` the number of rows. Bytes behind the last row are ignored. It is refused with 20
+   to 28. FOLIOKETTLE_ROWS places do for any file. */
+foliokettle_told foliokettle_read(const uint8_t *file, size_t length, uint64_t *rows, size_t places);
+
+/* A table becomes a lesson file: it goes to the front of the buffer, and `first` is its length, 8 + 8 * rows bytes; the
+   bytes behind it stay. It is refused with 1, 2 or 30. FOLIOKETTLE_FILE bytes do for any table. Read again, the file
+   gives back d and the same rows. */
+foliokettle_told foliokettle_write(size_t d, const uint64_t *table, size_t rows, uint8_t *buffer, size_t room);
 
 /* The library lays the structs out so, and no compiler may do otherwise. */
 #define FOLIOKETTLE_AT(type, field, place) static_assert(offsetof(type, field) == (place), #type ": " #field)

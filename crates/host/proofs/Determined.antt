@@ -18,6 +18,10 @@ use Rattle.host.proofs.foliokettle_call.Kinds as call-kinds
 use Rattle.host.proofs.foliokettle_call.Reads as call
 use Rattle.host.proofs.foliokettle_distinct.Kinds as distinct-kinds
 use Rattle.host.proofs.foliokettle_distinct.Reads as distinct
+use Rattle.host.proofs.lessons.foliokettle_read.Kinds as read-kinds
+use Rattle.host.proofs.lessons.foliokettle_read.Reads as read
+use Rattle.host.proofs.lessons.foliokettle_write.Kinds as write-kinds
+use Rattle.host.proofs.lessons.foliokettle_write.Reads as write
 use Rattle.host.proofs.foliokettle_alter as alter
 
 pub host-begin-determined : Public 1 begin-kinds.ps begin-kinds.r begin.Asked begin.Post Handed (λ κs r e. r)
@@ -32,6 +36,14 @@ host-call-determined =
 pub host-distinct-determined : Public 2 distinct-kinds.ps distinct-kinds.r distinct.Asked distinct.Post
     (Plain × List ℕ) (λ κs r e. (r, now (e .1 .1 .0)))
 host-distinct-determined =
+    record { asks-nothing = λ κs a. tt; determined = λ κs a r r′ e e′ p q i. ((p .0 ∙ sym (q .0)) i, (p .1 ∙ sym (q .1)) i) }
+
+pub host-read-determined : Public 2 read-kinds.ps read-kinds.r read.Asked read.Post (Plain × List ℕ) (λ κs r e. (r, now (e .1 .0)))
+host-read-determined =
+    record { asks-nothing = λ κs a. tt; determined = λ κs a r r′ e e′ p q i. ((p .0 ∙ sym (q .0)) i, (p .1 ∙ sym (q .1)) i) }
+
+pub host-write-determined : Public 2 write-kinds.ps write-kinds.r write.Asked write.Post (Plain × List ℕ) (λ κs r e. (r, now (e .1 .1 .0)))
+host-write-determined =
     record { asks-nothing = λ κs a. tt; determined = λ κs a r r′ e e′ p q i. ((p .0 ∙ sym (q .0)) i, (p .1 ∙ sym (q .1)) i) }
 
 -- what the entry in place ensures of its arguments (the sheet, the table, d, the desk, the kind, its argument, the list),

@@ -12,7 +12,11 @@ use spoken::Asked;
 use spoken::Handed;
 use spoken::Plain;
 
+mod lessons; // lessons.rt: lesson files
 mod spoken; // spoken.rt: calls and answers as plain numbers
+
+pub use lessons::foliokettle_read;
+pub use lessons::foliokettle_write;
 
 // DISTINCT over a view that belongs to no desk. Answers how many positions stand at the front of the list, or a refusal and its row.
 #[no_mangle]
@@ -28,11 +32,7 @@ pub extern "C" fn foliokettle_distinct(d: usize, view: &[u64], list: &mut [usize
             first: n as u64,
             second: 0,
         },
-        Answer::Refused(refusal) => Plain {
-            refusal: refusals::number(refusal) as u64,
-            first: refusals::row(refusal) as u64,
-            second: 0,
-        },
+        Answer::Refused(refusal) => spoken::refused(refusal),
     }
 }
 

@@ -1,6 +1,8 @@
 // Calls and answers as plain numbers.
 ghost use mathlib.Core.Path.{_≡_};
+ghost use Rattle.host.specs.Numbers.{plainRefused};
 ghost use Rattle.host.specs.Spoken.{askedBy, plainOf};
+use refusals::Refusal;
 use sheet::Sheet;
 use store::Answer;
 use store::Call;
@@ -57,6 +59,17 @@ pub fn heard(kind: u64, n: u64) -> Asked
     Asked::Nothing
 }
 
+// What is told of a refusal.
+pub fn refused(refusal: Refusal) -> Plain
+    ensures { λ r. ⌜ r ≡ plainRefused refusal ⌝ }
+{
+    Plain {
+        refusal: refusals::number(refusal) as u64,
+        first: refusals::row(refusal) as u64,
+        second: 0,
+    }
+}
+
 pub fn tell(answer: Answer) -> Plain
     ensures { λ r. ⌜ r ≡ plainOf answer ⌝ }
 {
@@ -81,10 +94,6 @@ pub fn tell(answer: Answer) -> Plain
             first: n as u64,
             second: 0,
         },
-        Answer::Refused(refusal) => Plain {
-            refusal: refusals::number(refusal) as u64,
-            first: refusals::row(refusal) as u64,
-            second: 0,
-        },
+        Answer::Refused(refusal) => refused(refusal),
     }
 }

@@ -22,11 +22,8 @@ enum-known-answer-3 c = search needs
 enum-known-answer-4 : tie.Need-enum-known-answer-4
 enum-known-answer-4 c = search needs
 
-number-requires : tie.Need-number-requires
-number-requires c κs = search needs
-
-row-requires : tie.Need-row-requires
-row-requires c κs = search needs
+refused-requires : tie.Need-refused-requires
+refused-requires c κs = search needs
 
 returns : tie.Need-returns
 returns c = rw (c .enum-told .given .1) refl
@@ -41,7 +38,7 @@ returns-4 : tie.Need-returns-4
 returns-4 c = rw (c .before .answer3 .given .1) refl
 
 returns-5 : tie.Need-returns-5
-returns-5 c = rw (c .before .before .before .answer4 .given .1, c .before .number .ensures, c .row .ensures) refl
+returns-5 c = rw (c .before .before .answer4 .given .1, c .refused .ensures) refl
 
 pub tell-spec : {M : Type 1} → statement M
 tell-spec =
@@ -53,8 +50,7 @@ tell-spec =
     enum-known-answer-2
     enum-known-answer-3
     enum-known-answer-4
-    number-requires
-    row-requires
+    refused-requires
     returns
     returns-2
     returns-3
