@@ -14,10 +14,12 @@ const LONGEST: usize = 2064;
 // The cells of a line begin at this column.
 const CELLS: usize = 11;
 
-fn change(file: &mut [u8; LONGEST], place: u64, byte: u64) {
+// The file with one byte changed.
+fn changed(mut file: [u8; LONGEST], place: u64, byte: u64) -> [u8; LONGEST] {
     if place < 2064 {
         file[place as usize] = (byte % 256) as u8;
     }
+    file
 }
 
 // The request's file, 50 56 54 00 01 04 00 03 and rows 3, 0 and 4 in 8 bytes each, and zeros behind it.
@@ -34,23 +36,11 @@ fn request() -> [u8; LONGEST] {
     file
 }
 
-// The first bytes of a file, where it has so many.
-fn front(file: &[u8; LONGEST], length: usize) -> &[u8] {
-    let whole = &file[..];
-    if length <= whole.len() {
-        &whole[0..length]
-    } else {
-        whole
-    }
-}
-
 // The file of the numbers. Where they say nothing else, it is the request's with a byte as it is, whole, and the list has a place for every row.
 fn trial(text: &[u8]) -> bool {
     let mut row = [0, 80, 0, 80, 0, 0, 0, 0, 0, 32, 300, 0, 0, 0, 0];
     let filled = texts::numbers(text, &mut row);
-    let mut file = request();
-    change(&mut file, row[0], row[1]);
-    change(&mut file, row[2], row[3]);
+    let file = changed(changed(request(), row[0], row[1]), row[2], row[3]);
     let must = Said {
         refusal: row[4],
         row: row[5],
@@ -60,7 +50,7 @@ fn trial(text: &[u8]) -> bool {
     let length = row[9] as usize;
     let places = row[10] as usize;
     check::check(
-        front(&file, length),
+        texts::front(&file, length),
         places,
         must,
         show::part(&row, CELLS, filled),

@@ -1,4 +1,4 @@
-// Texts: the next place of a byte, a line, and the numbers.
+// Texts: the next place of a byte, the first bytes, a line, and the numbers.
 ghost use Prim.Native.Nat.{_≤_};
 ghost use lib.ListN.{length};
 
@@ -20,6 +20,15 @@ pub fn find(text: &[u8], from: usize, byte: u8) -> usize
         at += 1;
     }
     at
+}
+
+// The first bytes of a text, where it has so many.
+pub fn front(text: &[u8], length: usize) -> &[u8] {
+    if length <= text.len() {
+        &text[0..length]
+    } else {
+        text
+    }
 }
 
 // Says one of some lines, counted from 0, with the numbers that it has; the last where there are not so many.
