@@ -12,7 +12,7 @@ use borrow.Author.Tests.{ltb-false}
 use Rattle.refusals.specs.declared.Refusal.{Refusal}
 use Rattle.refusals.specs.declared.Refusal.the-variants.{FewPlaces}
 use Rattle.refusals.specs.Cases.{decided}
-use Rattle.refusals.proofs.Outcomes.{NoneApplies, none-first, stands, stands-first, refuses-first, answered, refusing}
+use Rattle.refusals.proofs.Outcomes.{NoneApplies, none-first, stands, stands-first, refuses-first, not-refused, refusing}
 use Rattle.files.specs.declared.Lesson.{Lesson}
 use Rattle.files.specs.declared.Lesson.the-variants.{Read, Refused}
 use Rattle.files.specs.Files.{valuesIn, countIn}
@@ -33,7 +33,7 @@ module _ (file : List ℕ) where
   -- where it is read, no case applies
   pub read-none : (d t : ℕ) → judged file ≡ Read d t → NoneApplies (fileCases file) × (accepts ≡ Read d t)
   unfolding judged
-  read-none d t e = answered Refused accepts (Read d t) (apart d t) (fileCases file) e
+  read-none d t e = not-refused Refused accepts (Read d t) (apart d t) (fileCases file) e
 
   -- its T, and all its rows
   pub record Readable (t : ℕ) : Type 0 where
@@ -60,7 +60,7 @@ module _ (file : List ℕ) where
     pub read-judged : (d t : ℕ) → readAnswer file places ≡ Read d t → judged file ≡ Read d t
     unfolding readAnswer judged
     read-judged d t e =
-        let none = answered Refused accepts (Read d t) (apart d t) (readCases file places) e in
+        let none = not-refused Refused accepts (Read d t) (apart d t) (readCases file places) e in
         stands Refused (fileCases file) (none-first (fileCases file) (placeCases file places) (none .0)) accepts ∙ none .1
 
     pub still-refused : (r : Refusal) → judged file ≡ Refused r → readAnswer file places ≡ Refused r

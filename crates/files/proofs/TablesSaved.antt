@@ -13,7 +13,7 @@ use Rattle.refusals.specs.declared.Refusal.{Refusal}
 use Rattle.refusals.specs.declared.Refusal.the-variants.{ShortBuffer}
 use Rattle.refusals.specs.Cases.{Case, decided}
 use Rattle.refusals.specs.TableCases.{tableCases}
-use Rattle.refusals.proofs.Outcomes.{NoneApplies, Gives, none-first, stands-first, refuses-first, answered}
+use Rattle.refusals.proofs.Outcomes.{NoneApplies, Gives, none-first, stands-first, refuses-first, not-refused}
 use Rattle.refusals.proofs.TablesJudged.{TableRight, right-parts}
 use Rattle.files.specs.declared.Saved.{Saved}
 use Rattle.files.specs.declared.Saved.the-variants.{Length, Refused}
@@ -55,5 +55,5 @@ module _ (d : ℕ) (table : List ℕ) (room : ℕ) where
   pub saved-right : (n : ℕ) → writeAnswer d table room ≡ Length n → TableRight mostRows d table × (n ≡ 8 + 8 * length table)
   unfolding writeAnswer
   saved-right n e =
-      let none = answered Refused accepts (Length n) (apart n) (writeCases d table room) e in
+      let none = not-refused Refused accepts (Length n) (apart n) (writeCases d table room) e in
       (right-parts mostRows d table (none-first cases (roomCases table room) (none .0)), sym (lengths (8 + 8 * length table) n (none .1)))

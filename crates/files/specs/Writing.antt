@@ -12,7 +12,7 @@ use Rattle.files.specs.declared.Saved.{Saved}
 use Rattle.files.specs.declared.Saved.the-variants.{Length, Refused}
 use Rattle.files.specs.Bytes.{inBytes}
 
--- ---- 'a table goes out as a version 1 file'
+-- ---- 'a table goes out as a version 1 file' (the request, 'Lesson files')
 
 -- 'Bytes 0 to 2 are the mark "PVT" (50 56 54), 3 and 4 the version 1, 5 is d, 6 and 7 the row count T.'
 unfoldable pub header : ℕ → ℕ → List ℕ

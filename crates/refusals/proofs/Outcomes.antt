@@ -56,8 +56,8 @@ module _ {A : Type 0} (refused : Refusal → A) where
   refuses-first cs ds r g a = sym (chained cs ds a) ∙ refuses cs r g (decided refused ds a)
 
   -- the other way, where what is answered is no refusal
-  pub answered : (a b : A) → ((r : Refusal) → refused r ≢ b) → (cs : List Case) → decided refused cs a ≡ b → NoneApplies cs × (a ≡ b)
-  answered a b apart cs e = elim (outcome cs) [
+  pub not-refused : (a b : A) → ((r : Refusal) → refused r ≢ b) → (cs : List Case) → decided refused cs a ≡ b → NoneApplies cs × (a ≡ b)
+  not-refused a b apart cs e = elim (outcome cs) [
     | inl none ↦ (none, sym (stands cs none a) ∙ e)
     | inr (r, g) ↦ absurd (apart r (sym (refuses cs r g a) ∙ e))
   ]
@@ -65,7 +65,7 @@ module _ {A : Type 0} (refused : Refusal → A) where
   -- where no refusal is the answer that stands, nor another refusal
   module _ (a : A) (apart : (r : Refusal) → refused r ≢ a) where
     pub stood : (cs : List Case) → decided refused cs a ≡ a → NoneApplies cs
-    stood cs e = answered a a apart cs e .0
+    stood cs e = not-refused a a apart cs e .0
 
     pub refusing : ((r s : Refusal) → refused r ≡ refused s → r ≡ s) → (cs : List Case) (r : Refusal) → decided refused cs a ≡ refused r → Gives cs r
     refusing same cs r e = elim (outcome cs) [
