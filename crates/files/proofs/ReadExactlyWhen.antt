@@ -9,8 +9,10 @@ use borrow.Author.Tests.{not-true, not-false}
 use Rattle.sets.specs.Sets.{below}
 use Rattle.sets.proofs.Bools.{not-both}
 use Rattle.refusals.specs.declared.Refusal.the-variants.{RowOver}
-use Rattle.refusals.specs.Cases.{_names_, foundAt, Given, Rising}
-use Rattle.refusals.proofs.GivenExactlyWhen.{low-never, given-exactly-when, own-refusal, none-given}
+use Rattle.refusals.specs.Cases.{_names_, foundAt, applies, Given, Rising}
+use Rattle.refusals.proofs.CaseNumbers.{Numbered}
+use Rattle.refusals.proofs.FirstInOrder.{own-refusal, none-given}
+use Rattle.refusals.proofs.GivenExactlyWhen.{rising-numbered, given-exactly-when}
 use Rattle.refusals.proofs.RowsReturned.{found-at, no-row}
 use Rattle.files.specs.declared.Lesson.{Lesson}
 use Rattle.files.specs.declared.Lesson.the-variants.{Read, Refused}
@@ -37,6 +39,9 @@ module _ (file : List ℕ) (places : ℕ) where
   read-rising =
       (omega arith, (omega arith, (omega arith, (omega arith, (omega arith, (omega arith, (omega arith, (omega arith, (omega arith, tt)))))))))
 
+  numbered : Numbered (readCases file places)
+  numbered = rising-numbered 19 (readCases file places) read-rising
+
   pub read-exactly-when : (n : ℕ) → 0 < n → (numberOf (readAnswer file places) ≡ n) ↔ Given (readCases file places) n
   unfolding readAnswer
   read-exactly-when = given-exactly-when Refused numberOf (λ r. refl) accepts refl 19 (readCases file places) read-rising
@@ -45,7 +50,7 @@ module _ (file : List ℕ) (places : ℕ) where
   pub accepted-returns : numberOf answer ≡ 0 → (valuesOf answer ≡ valuesIn file) × (countOf answer ≡ countIn file) × (rowOf answer ≡ 0)
   unfolding readAnswer
   accepted-returns e =
-      let read = none-given Refused numberOf (λ r. refl) accepts refl 19 (readCases file places) read-rising e .1 in
+      let read = none-given Refused numberOf (λ r. refl) accepts refl (readCases file places) numbered e .1 in
       (ap valuesOf read, ap countOf read, ap rowOf read)
 
   -- 'A refusal returns its number, a row number .. and 0 for d and T'
@@ -60,7 +65,7 @@ module _ (file : List ℕ) (places : ℕ) where
   unfolding readAnswer rowCases
   row-over-returns e =
       let member = Memᴰ·append-left (placeCases file places) (Memᴰ·append-right (frontCases file) (List·Memᴰ·head refl)) in
-      let own = own-refusal Refused numberOf (λ r. refl) accepts refl 19 (readCases file places) read-rising (rowOver file names RowOver) member e in
+      let own = own-refusal Refused numberOf (λ r. refl) accepts refl (readCases file places) numbered (rowOver file names RowOver) member e in
       let i = foundAt (rowOver file) in
       let lowest = lowest-says (λ j. not (below (valuesIn file) (rowIn file j))) (countIn file) i (found-at (rowOver file) (own .0)) in
       rw (ap rowOf (own .1)) (
@@ -70,7 +75,11 @@ module _ (file : List ℕ) (places : ℕ) where
       )
 
   -- 'a row number (0 except for 26)'
+  never-2 : applies (readCases file places) 2 ≡ false
+  unfolding applies frontCases rowCases
+  never-2 = refl
+
   pub no-row-returns : numberOf answer ≢ 26 → rowOf answer ≡ 0
   unfolding readAnswer
   no-row-returns = no-row Refused numberOf (λ r. refl) accepts rowOf (λ r. refl) refl (readCases file places)
-      (λ e. not-both (read-exactly-when 2 (omega arith) .0 e .0) (low-never 19 (readCases file places) read-rising 2 (omega arith)))
+      (λ e. not-both (read-exactly-when 2 (omega arith) .0 e .0) never-2)

@@ -13,7 +13,8 @@ use Rattle.sets.proofs.Bools.{not-both}
 use Rattle.sets.proofs.BadRows.{LowestBad}
 use Rattle.refusals.specs.Cases.{applies, Given, Rising}
 use Rattle.refusals.specs.TableCases.{tableCases}
-use Rattle.refusals.proofs.GivenExactlyWhen.{given-exactly-when, none-given}
+use Rattle.refusals.proofs.FirstInOrder.{none-given}
+use Rattle.refusals.proofs.GivenExactlyWhen.{rising-numbered, given-exactly-when}
 use Rattle.refusals.proofs.RowsReturned.{table-rising, no-row, lowest-bad-row}
 use Rattle.files.specs.declared.Saved.{Saved}
 use Rattle.files.specs.declared.Saved.the-variants.{Length, Refused}
@@ -42,7 +43,8 @@ module _ (d : ℕ) (table : List ℕ) (room : ℕ) where
   pub length-returned : numberOf answer ≡ 0 → (answer ≡ Length (8 + 8 * length table)) × (8 + 8 * length table ≤ room) × (rowOf answer ≡ 0)
   unfolding writeAnswer tableCases
   length-returned e =
-      let none = none-given Refused numberOf (λ r. refl) accepts refl 0 (writeCases d table room) write-rising e in
+      let cases = writeCases d table room in
+      let none = none-given Refused numberOf (λ r. refl) accepts refl cases (rising-numbered 0 cases write-rising) e in
       (none .1, ltb-false room (8 + 8 * length table) (none .0 .1 .1 .0), ap rowOf (none .1))
 
   -- '2 as for a table': it returns the lowest bad row

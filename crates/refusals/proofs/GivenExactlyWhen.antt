@@ -1,60 +1,55 @@
 -- Cases in the order of their numbers decide as the request says: a refusal is 'Given exactly when' its case applies and none of a lower number
--- does. Shown once, for any type of answer. Assumes nothing.
+-- does, as then the first of them is the lowest. Shown once, for any type of answer. Assumes nothing.
 use Prim.Native.Nat.{ℕ, _<_, _≤_}
-use mathlib.Core.Path.{_≡_, refl, sym, ap, subst, _∙_}
+use mathlib.Core.Path.{_≡_, refl, subst, _∙_}
 use mathlib.Core.Logic.{_↔_, inl, inr}
-use mathlib.Core.Bool.{Bool, true, false, _&&_, _||_}
-use mathlib.Core.List.{List, [], _∷_, List·Memᴰ, List·Memᴰ·head, List·Memᴰ·tail, List·Memᴰ·not-nil}
+use mathlib.Core.Bool.{false}
+use mathlib.Core.List.{List, [], _∷_}
 use native.Mathlib.Omega.{arith}
 use lib.Dec.{eqb}
-use borrow.Author.Tests.{eq-eqb, ne-eqb}
-use Rattle.sets.proofs.Bools.{not-both}
+use borrow.Author.Tests.{eqb-true, ne-eqb}
+use Rattle.sets.proofs.Bools.{true-or-false, not-both}
 use Rattle.refusals.specs.declared.Refusal.{Refusal}
 use Rattle.refusals.specs.Refusals.{number}
-use Rattle.refusals.specs.Cases.{Case, decided, applies, Given, Rising}
-use Rattle.refusals.proofs.Outcomes.{NoneApplies, Gives, outcome, stands, refuses}
+use Rattle.refusals.specs.Cases.{Case, decided, applies, Given, First, Rising}
+use Rattle.refusals.proofs.Outcomes.{outcome}
+use Rattle.refusals.proofs.CaseNumbers.{hasCase, EachOnce, Numbered, no-case-never, passed-over, none-never}
+use Rattle.refusals.proofs.FirstInOrder.{later-first, gives-first, first-exactly-when}
 
--- ---- which numbers apply
+-- ---- the numbers of such cases
 
--- none up to the one that the cases stand above
-pub low-never : (k : ℕ) (cs : List Case) → Rising k cs → (n : ℕ) → n ≤ k → applies cs n ≡ false
-unfolding applies
-low-never k [] r n h = refl
-low-never k (c ∷ cs) r n h =
+-- none is as low as the one that the cases stand above
+low-no-case : (k : ℕ) (cs : List Case) → Rising k cs → (n : ℕ) → n ≤ k → hasCase cs n ≡ false
+low-no-case k [] r n h = refl
+low-no-case k (c ∷ cs) r n h =
     let other : eqb (number (c .refusal)) n ≡ false = ne-eqb (number (c .refusal)) n (λ e. omega (arith, r .0)) in
-    rw (other, low-never (number (c .refusal)) cs (r .1) n (omega (arith, r .0))) refl
+    rw other (low-no-case (number (c .refusal)) cs (r .1) n (omega (arith, r .0)))
 
--- a case that does not apply counts for nothing
-passed-over : (c : Case) (cs : List Case) → c .applies ≡ false → (n : ℕ) → applies (c ∷ cs) n ≡ applies cs n
+rising-once : (k : ℕ) (cs : List Case) → Rising k cs → EachOnce cs
+rising-once k [] r = tt
+rising-once k (c ∷ cs) r =
+    let n = number (c .refusal) in (low-no-case n cs (r .1) n (omega arith), rising-once n cs (r .1))
+
+pub rising-numbered : (k : ℕ) (cs : List Case) → Rising k cs → Numbered cs
+rising-numbered k cs r = record { no-zero = low-no-case k cs r 0 (omega arith); once = rising-once k cs r }
+
+-- ---- the first is the lowest
+
+none-lower : (k : ℕ) (cs : List Case) → Rising k cs → (n : ℕ) → First cs n → (m : ℕ) → m < n → applies cs m ≡ false
 unfolding applies
-passed-over c cs e n = never (eqb (number (c .refusal)) n) (c .applies) e
-  where
-    never : (t b : Bool) → b ≡ false → ((t && b) || applies cs n) ≡ applies cs n
-    never true b e = rw e refl
-    never false b e = refl
+none-lower k [] rising n first m h = refl
+none-lower k (c ∷ cs) rising n first m h = elim (true-or-false (eqb (number (c .refusal)) n)) [
+  | inl same ↦
+      (let e = eqb-true (number (c .refusal)) n same in
+      let other : eqb (number (c .refusal)) m ≡ false = ne-eqb (number (c .refusal)) m (λ z. omega arith) in
+      no-case-never (c ∷ cs) m (rw other (low-no-case (number (c .refusal)) cs (rising .1) m (omega arith))))
+  | inr other ↦
+      (let rest = later-first c cs n other first in
+      passed-over c cs (rest .0) m ∙ none-lower (number (c .refusal)) cs (rising .1) n (rest .1) m h)
+]
 
-none-never : (cs : List Case) → NoneApplies cs → (n : ℕ) → applies cs n ≡ false
-unfolding applies
-none-never [] none n = refl
-none-never (c ∷ cs) none n = passed-over c cs (none .0) n ∙ none-never cs (none .1) n
-
--- ---- which number is given
-
-gives-given : (k : ℕ) (cs : List Case) → Rising k cs → (r : Refusal) → Gives cs r → Given cs (number r)
-unfolding applies
-gives-given k [] rising r g = absurd g
-gives-given k (c ∷ cs) rising r (inl (e, same)) = subst (λ (s : Refusal). Given (c ∷ cs) (number s)) same (here, lower)
-  where
-    here : applies (c ∷ cs) (number (c .refusal)) ≡ true
-    here = rw (eq-eqb (number (c .refusal)) (number (c .refusal)) refl, e) refl
-
-    lower : (m : ℕ) → m < number (c .refusal) → applies (c ∷ cs) m ≡ false
-    lower m h =
-        let other : eqb (number (c .refusal)) m ≡ false = ne-eqb (number (c .refusal)) m (λ e. omega arith) in
-        rw (other, low-never (number (c .refusal)) cs (rising .1) m (omega arith)) refl
-gives-given k (c ∷ cs) rising r (inr (e, later)) =
-    let given = gives-given (number (c .refusal)) cs (rising .1) r later in
-    (passed-over c cs e (number r) ∙ given .0, λ m h. passed-over c cs e m ∙ given .1 m h)
+first-lowest : (k : ℕ) (cs : List Case) → Rising k cs → (n : ℕ) → First cs n → Given cs n
+first-lowest k cs rising n first = (first .0, none-lower k cs rising n first)
 
 one-given : (cs : List Case) (m n : ℕ) → Given cs m → Given cs n → m ≡ n
 one-given cs m n f g =
@@ -62,60 +57,20 @@ one-given cs m n f g =
     let not-higher : (n < m) → ⊥ = λ h. not-both (g .0) (f .1 n h) in
     omega arith
 
--- ---- which case gives it
-
-above : (k : ℕ) (cs : List Case) → Rising k cs → {x : Case} → List·Memᴰ x cs → k < number (x .refusal)
-above k [] r m = absurd (List·Memᴰ·not-nil m)
-above k (c ∷ cs) r (List·Memᴰ·head e) = rw e (r .0)
-above k (c ∷ cs) r (List·Memᴰ·tail m) = omega (arith, r .0, above (number (c .refusal)) cs (r .1) m)
-
-gives-above : (k : ℕ) (cs : List Case) → Rising k cs → (r : Refusal) → Gives cs r → k < number r
-gives-above k [] rising r g = absurd g
-gives-above k (c ∷ cs) rising r (inl (e, same)) = rw same at (rising .0)
-gives-above k (c ∷ cs) rising r (inr (e, later)) = omega (arith, rising .0, gives-above (number (c .refusal)) cs (rising .1) r later)
-
--- the case of the number given is the one that gives it
-own-case : (k : ℕ) (cs : List Case) → Rising k cs → (x : Case) → List·Memᴰ x cs → (r : Refusal) → Gives cs r → number r ≡ number (x .refusal)
-    → (x .applies ≡ true) × (x .refusal ≡ r)
-own-case k [] rising x m r g e = absurd g
-own-case k (c ∷ cs) rising x (List·Memᴰ·head here) r (inl (t, same)) e = rw here (t, same)
-own-case k (c ∷ cs) rising x (List·Memᴰ·tail m) r (inl (t, same)) e =
-    absurd (omega (arith, above (number (c .refusal)) cs (rising .1) m, ap number same))
-own-case k (c ∷ cs) rising x (List·Memᴰ·head here) r (inr (f, later)) e =
-    absurd (omega (arith, gives-above (number (c .refusal)) cs (rising .1) r later, ap (λ (y : Case). number (y .refusal)) here))
-own-case k (c ∷ cs) rising x (List·Memᴰ·tail m) r (inr (f, later)) e = own-case (number (c .refusal)) cs (rising .1) x m r later e
+lowest-first : (k : ℕ) (cs : List Case) → Rising k cs → (n : ℕ) → Given cs n → First cs n
+lowest-first k cs rising n given = elim (outcome cs) [
+  | inl none ↦ absurd (not-both (given .0) (none-never cs none n))
+  | inr (r, g) ↦
+      (let first = gives-first cs r g in
+      subst (First cs) (one-given cs (number r) n (first-lowest k cs rising (number r) first) given) first)
+]
 
 -- ---- of any answer
 
 module _ {A : Type 0} (refused : Refusal → A) (numberOf : A → ℕ) (tells : (r : Refusal) → numberOf (refused r) ≡ number r) (a : A)
     (accepts : numberOf a ≡ 0) (k : ℕ) (cs : List Case) (rising : Rising k cs) where
-  told : (r : Refusal) → Gives cs r → numberOf (decided refused cs a) ≡ number r
-  told r g = ap numberOf (refuses refused cs r g a) ∙ tells r
-
-  untold : NoneApplies cs → numberOf (decided refused cs a) ≡ 0
-  untold none = ap numberOf (stands refused cs none a) ∙ accepts
-
   -- a refusal is given exactly when its case applies and none of a lower number does
   pub given-exactly-when : (n : ℕ) → 0 < n → (numberOf (decided refused cs a) ≡ n) ↔ Given cs n
-  given-exactly-when n h = elim (outcome cs) [
-    | inl none ↦ (λ e. absurd (omega (arith, untold none)), λ g. absurd (not-both (g .0) (none-never cs none n)))
-    | inr (r, g) ↦
-        (let given = gives-given k cs rising r g in
-        (λ e. rw (sym (told r g) ∙ e) at given, λ f. told r g ∙ one-given cs (number r) n given f))
-  ]
-
-  -- and then it is that case's own refusal, with its row
-  pub own-refusal : (x : Case) → List·Memᴰ x cs → numberOf (decided refused cs a) ≡ number (x .refusal)
-      → (x .applies ≡ true) × (decided refused cs a ≡ refused (x .refusal))
-  own-refusal x m e = elim (outcome cs) [
-    | inl none ↦ absurd (omega (arith, untold none, above k cs rising m))
-    | inr (r, g) ↦
-        (let own = own-case k cs rising x m r g (sym (told r g) ∙ e) in (own .0, refuses refused cs r g a ∙ ap refused (sym (own .1))))
-  ]
-
-  -- number 0 is given where no case applies, and then the answer stands
-  pub none-given : numberOf (decided refused cs a) ≡ 0 → NoneApplies cs × (decided refused cs a ≡ a)
-  none-given e = elim (outcome cs) [
-    | inl none ↦ (none, stands refused cs none a)
-    | inr (r, g) ↦ absurd (omega (arith, told r g, gives-above k cs rising r g))
-  ]
+  given-exactly-when n h =
+      let first = first-exactly-when refused numberOf tells a accepts cs (rising-numbered k cs rising) n h in
+      (λ e. first-lowest k cs rising n (first .0 e), λ given. first .1 (lowest-first k cs rising n given))

@@ -17,7 +17,8 @@ use Rattle.refusals.specs.Refusals.{number, row}
 use Rattle.refusals.specs.Cases.{Case, found, foundAt, decided, Rising}
 use Rattle.refusals.specs.TableCases.{badCase, tableCases}
 use Rattle.refusals.proofs.Outcomes.{outcome, stands, refuses}
-use Rattle.refusals.proofs.GivenExactlyWhen.{own-refusal}
+use Rattle.refusals.proofs.FirstInOrder.{own-refusal}
+use Rattle.refusals.proofs.GivenExactlyWhen.{rising-numbered}
 
 -- ---- '0 except where stated'
 
@@ -74,6 +75,7 @@ module _ {A : Type 0} (refused : Refusal → A) (numberOf : A → ℕ) (tells : 
   unfolding tableCases
   lowest-bad-row most d table cs r accepts e =
       let f = badRow d table in
-      let given = own-refusal refused numberOf tells a accepts 0 (tableCases most d table ++ cs) (table-rising most d table cs r) (badCase f)
+      let all = tableCases most d table ++ cs in
+      let given = own-refusal refused numberOf tells a accepts all (rising-numbered 0 all (table-rising most d table cs r)) (badCase f)
       (List·Memᴰ·tail (List·Memᴰ·head refl)) e in
       (foundAt f, given .1, bad-row-at d table (foundAt f) (found-at f (given .0)))

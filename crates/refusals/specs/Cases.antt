@@ -1,4 +1,5 @@
--- Which refusal is given (the request, 'Refusal numbers'): 'Where several apply, the lowest number is given.'
+-- Which refusal is given (the request, 'Refusal numbers'): 'Where several apply, the lowest number is given.' Where a wish has a number 'tried' out
+-- of its turn, the list of the cases is the order, and the first that applies is given.
 use Prim.Native.Nat.{ℕ, zero, _<_}
 use mathlib.Core.Path.{_≡_}
 use mathlib.Core.Bool.{Bool, true, false, cond, _&&_, _||_}
@@ -44,6 +45,15 @@ applies (c ∷ cs) n = (eqb (number (c .refusal)) n && c .applies) || applies cs
 -- number n is to be given: its case applies, and none of a lower number does
 abbrev pub Given : List Case → ℕ → Type 0
 Given cs n = (applies cs n ≡ true) × ((m : ℕ) → m < n → applies cs m ≡ false)
+
+-- the cases that are tried before number n: those that stand before its own
+unfoldable pub triedBefore : List Case → ℕ → List Case
+triedBefore [] n = []
+triedBefore (c ∷ cs) n = cond (eqb (number (c .refusal)) n) [] (c ∷ triedBefore cs n)
+
+-- number n comes first: its case applies, and none that is tried before it does
+abbrev pub First : List Case → ℕ → Type 0
+First cs n = (applies cs n ≡ true) × ((m : ℕ) → applies (triedBefore cs n) m ≡ false)
 
 -- the cases stand in the order of their numbers, which are all above n
 abbrev pub Rising : ℕ → List Case → Type 0
