@@ -1,7 +1,8 @@
 -- `ReadExactlyWhen`: when a file is refused, and what is returned. `RequestFile`: the request's own file.
 -- `ReaderTurns`: a fresh reader hands out the rows of a file in turn, and then no more. `ReaderRuns`: so does any run of a reader.
 -- `WriteExactlyWhen`: when a table is not saved, and what is returned and written.
--- `ReadBack`: what was written is read again. `WriteBack`: what was read is written again. `Determined`: the contracts leave no choice.
+-- `ReadBack`: what was written is read again. `WriteBack`: what was read is written again. `LongFiles`: what stands behind a file is refused.
+-- `Determined`: the contracts leave no choice.
 -- `ByteLaws`: numbers in bytes fit a word, and are read as they were put. `RowLaws`: the first n rows.
 -- `RowsJudged`: refusals 26 and 27 by what the code finds. `CellLaws`: a cell as it is read. `Filling`: words whose front is filled.
 -- `ReadFiles`: what is known of a file that is judged. `MadeReader`: what a reader owns that is made of a file and a cursor.
@@ -14,6 +15,7 @@ pub mod ReaderRuns
 pub mod WriteExactlyWhen
 pub mod ReadBack
 pub mod WriteBack
+pub mod LongFiles
 pub mod Determined
 pub mod ByteLaws
 pub mod RowLaws

@@ -1,10 +1,9 @@
--- Reading what was written: a table that is saved is read back as itself, at once and row by row, from its file alone and from the whole buffer.
--- Assumes nothing.
+-- Reading what was written: a table that is saved is read back as itself, at once and row by row, from the bytes written. Assumes nothing.
 use Prim.Native.Nat.{ℕ, zero, suc, _+_, _*_, _^_, _≤_, _<_}
 use mathlib.Core.Path.{_≡_, refl, sym, ap, ap₂, _∙_, subst}
 use mathlib.Core.Logic.{_≢_}
 use mathlib.Core.Bool.{Bool, false, not, cond, _&&_, _||_}
-use mathlib.Core.List.{List, [], _∷_, _++_, append-nil, append-assoc}
+use mathlib.Core.List.{List, [], _∷_, _++_, append-assoc}
 use native.Mathlib.Nat.{not-suc-le-zero, le-of-suc-le-suc, le-trans}
 use native.Mathlib.Omega.{arith}
 use lib.Dec.{eqb, leb, ltb}
@@ -53,21 +52,20 @@ pub record ReadAs (d : ℕ) (table file : List ℕ) : Type 0 where
 
 -- ---- the bytes of a table
 
--- each row is read again, whatever stands before the rows and behind them
-row-again : (table before rest : List ℕ) (i : ℕ) → i < length table → getD table i 0 < cap 8
-    → big (before ++ rowBytes table ++ rest) (length before + 8 * i) 8 ≡ getD table i 0
+-- each row is read again, whatever stands before the rows
+row-again : (table before : List ℕ) (i : ℕ) → i < length table → getD table i 0 < cap 8
+    → big (before ++ rowBytes table) (length before + 8 * i) 8 ≡ getD table i 0
 unfolding rowBytes
-row-again [] before rest i h small = absurd (not-suc-le-zero h)
-row-again (r ∷ rows) before rest zero h small =
+row-again [] before i h small = absurd (not-suc-le-zero h)
+row-again (r ∷ rows) before zero h small =
     let first : length before + 8 * zero ≡ length before = omega arith in
-    ap₂ (λ (l : List ℕ) (k : ℕ). big (l ++ rest) k 8) (sym (append-assoc before (inBytes 8 r) (rowBytes rows))) first
-    ∙ ap (λ (l : List ℕ). big l (length before) 8) (append-assoc (before ++ inBytes 8 r) (rowBytes rows) rest)
-    ∙ big-again 8 r before (rowBytes rows ++ rest) small
-row-again (r ∷ rows) before rest (suc i) h small =
+    ap₂ (λ (l : List ℕ) (k : ℕ). big l k 8) (sym (append-assoc before (inBytes 8 r) (rowBytes rows))) first
+    ∙ big-again 8 r before (rowBytes rows) small
+row-again (r ∷ rows) before (suc i) h small =
     let front = before ++ inBytes 8 r in
     let later : length before + 8 * suc i ≡ length front + 8 * i = omega (arith, length-append before (inBytes 8 r), bytes-length 8 r) in
-    ap₂ (λ (l : List ℕ) (k : ℕ). big (l ++ rest) k 8) (sym (append-assoc before (inBytes 8 r) (rowBytes rows))) later
-    ∙ row-again rows front rest i (le-of-suc-le-suc h) small
+    ap₂ (λ (l : List ℕ) (k : ℕ). big l k 8) (sym (append-assoc before (inBytes 8 r) (rowBytes rows))) later
+    ∙ row-again rows front i (le-of-suc-le-suc h) small
 
 -- ---- the rows of a table that is right
 
@@ -81,11 +79,10 @@ module _ (d : ℕ) (table : List ℕ) (right : TableRight mostRows d table) wher
   pub right-narrow : Narrow table
   right-narrow = narrow-each table row-less
 
--- ---- its file, whatever stands behind it
+  -- ---- its file
 
-module _ (d : ℕ) (table rest : List ℕ) (right : TableRight mostRows d table) where
   abbrev file : List ℕ
-  file = fileOf d table ++ rest
+  file = fileOf d table
 
   abbrev t : ℕ
   t = length table
@@ -102,21 +99,21 @@ module _ (d : ℕ) (table rest : List ℕ) (right : TableRight mostRows d table)
 
   values : valuesIn file ≡ d
   unfolding fileOf header inBytes cap
-  values = big-again 1 d (inBytes 3 0x505654 ++ inBytes 2 1) (inBytes 2 t ++ rowBytes table ++ rest) (omega (arith, right .values))
+  values = big-again 1 d (inBytes 3 0x505654 ++ inBytes 2 1) (inBytes 2 t ++ rowBytes table) (omega (arith, right .values))
 
   count : countIn file ≡ t
   unfolding fileOf header inBytes cap
-  count = big-again 2 t (inBytes 3 0x505654 ++ inBytes 2 1 ++ inBytes 1 d) (rowBytes table ++ rest) (omega (arith, right .small))
+  count = big-again 2 t (inBytes 3 0x505654 ++ inBytes 2 1 ++ inBytes 1 d) (rowBytes table) (omega (arith, right .small))
 
   row : (i : ℕ) → i < t → rowIn file i ≡ getD table i 0
   unfolding fileOf header inBytes cap
-  row i h = row-again table (header d t) rest i h (row-less d table right i h)
+  row i h = row-again table (header d t) i h (row-less i h)
 
   row-not : (i : ℕ) → i < t → rowIn file i ≢ zero
   unfolding within
   row-not i h e =
       let r = getD table i 0 in
-      eqb-false r zero (not-true (eqb r zero) (and-left (not (eqb r zero)) (below d r) (all-within d table right i h))) (sym (row i h) ∙ e)
+      eqb-false r zero (not-true (eqb r zero) (and-left (not (eqb r zero)) (below d r) (all-within i h))) (sym (row i h) ∙ e)
 
   -- a row is never zero, so each cell is its row
   cells : cellsIn file ≡ table
@@ -130,15 +127,12 @@ module _ (d : ℕ) (table rest : List ℕ) (right : TableRight mostRows d table)
 
   -- ---- it is read
 
-  whole : length file ≡ 8 + 8 * t + length rest
-  whole = length-append (fileOf d table) rest ∙ ap (λ (n : ℕ). n + length rest) (file-length d table)
-
   none-over : rowOver file ≡ Nothing
   unfolding within
   none-over = lowest-none (λ i. not (below (valuesIn file) (rowIn file i))) (countIn file) (λ i h.
       let here : i < t = omega (arith, h, count) in
       let r = getD table i 0 in
-      ap not ((λ j. below (values j) (row i here j)) ∙ and-right (not (eqb r zero)) (below d r) (all-within d table right i here)))
+      ap not ((λ j. below (values j) (row i here j)) ∙ and-right (not (eqb r zero)) (below d r) (all-within i here)))
 
   -- with a row, not all are zero
   abbrev none-known : Bool
@@ -153,14 +147,17 @@ module _ (d : ℕ) (table rest : List ℕ) (right : TableRight mostRows d table)
   none-applies : NoneApplies (fileCases file)
   unfolding frontCases rowCases
   none-applies =
-      let front : ltb (length file) 8 ≡ false = le-ltb (length file) 8 (omega (arith, whole)) in
+      let long = file-length d table in
+      let front : ltb (length file) 8 ≡ false = le-ltb (length file) 8 (omega (arith, long)) in
       let marked = ap not (eq-eqb (markIn file) 0x505654 mark) in
       let first = ap not (eq-eqb (versionIn file) 1 version) in
       let some : eqb d zero ≡ false = ne-eqb d zero (λ e. omega (arith, right .some-value)) in
       let column : (eqb (valuesIn file) zero || ltb mostValues (valuesIn file)) ≡ false = rw (values, some) (le-ltb mostValues d (right .values)) in
       let few : ltb mostRows (countIn file) ≡ false = le-ltb mostRows (countIn file) (omega (arith, count, right .small)) in
-      let all : ltb (length file) (8 + 8 * countIn file) ≡ false = le-ltb (length file) (8 + 8 * countIn file) (omega (arith, count, whole)) in
-      (front, (marked, (first, (column, (few, (all, (ap found none-over, (some-known, tt))))))))
+      let due = 8 + 8 * countIn file in
+      let all : ltb (length file) due ≡ false = le-ltb (length file) due (omega (arith, count, long)) in
+      let no-more : ltb due (length file) ≡ false = le-ltb due (length file) (omega (arith, count, long)) in
+      (front, (marked, (first, (column, (few, (all, (no-more, (ap found none-over, (some-known, tt)))))))))
 
   read : judged file ≡ Read d t
   unfolding judged
@@ -172,14 +169,14 @@ module _ (d : ℕ) (table rest : List ℕ) (right : TableRight mostRows d table)
   fills-list list h =
       ap (λ (l : List ℕ). rowsOf (inWords l ++ drop (t * rowWords) list)) cells
       ∙ rows-append t (inWords table) (drop (t * rowWords) list) (words-length table)
-      ∙ ap₂ (λ (a b : List ℕ). a ++ b) (rows-words table (right-narrow d table right)) (rows-drop t list h)
+      ∙ ap₂ (λ (a b : List ℕ). a ++ b) (rows-words table right-narrow) (rows-drop t list h)
 
   pub read-back : ReadAs d table file
   read-back = record {
     answers = λ places h. then-places file places d t read ∙ ap (λ (b : Bool). cond b (lesson.Refused FewPlaces) (Read d t)) (le-ltb places t h);
     fills = fills-list;
     hands-out = λ i h.
-        let room : t ≤ length (rowsOf (inWords table)) = omega (arith, ap length (rows-words table (right-narrow d table right))) in
+        let room : t ≤ length (rowsOf (inWords table)) = omega (arith, ap length (rows-words table right-narrow)) in
         rows-in-turn file d t read (inWords table) i h
         ∙ ap (λ (l : List ℕ). Cell (asRow (getD l i 0))) (fills-list (inWords table) room)
         ∙ ap (λ (n : ℕ). Cell (asRow n)) (List·getD-append table (drop t (rowsOf (inWords table))) 0 i h);
@@ -192,10 +189,8 @@ module _ (d : ℕ) (table buffer : List ℕ) (n : ℕ) (saved : writeAnswer d ta
   right : TableRight mostRows d table
   right = saved-right d table (length buffer) n saved .0
 
-  alone : take n (fileOf d table ++ drop n buffer) ≡ fileOf d table ++ []
-  alone =
-      take-at (fileOf d table) (drop n buffer) n (file-length d table ∙ sym (saved-right d table (length buffer) n saved .1))
-      ∙ sym (append-nil (fileOf d table))
+  written : take n (bufferAfter d table buffer (Length n)) ≡ fileOf d table
+  written = take-at (fileOf d table) (drop n buffer) n (file-length d table ∙ sym (saved-right d table (length buffer) n saved .1))
 
-  pub reading-what-was-written : let after = bufferAfter d table buffer (Length n) in ReadAs d table (take n after) × ReadAs d table after
-  reading-what-was-written = (subst (ReadAs d table) (sym alone) (read-back d table [] right), read-back d table (drop n buffer) right)
+  pub reading-what-was-written : ReadAs d table (take n (bufferAfter d table buffer (Length n)))
+  reading-what-was-written = subst (ReadAs d table) (sym written) (read-back d table right)

@@ -1,18 +1,20 @@
 -- When a lesson file is refused, with which number, and what is returned with it (the request, 'Lesson files'). Assumes nothing.
-use Prim.Native.Nat.{ℕ, _<_}
-use mathlib.Core.Path.{_≡_, refl, ap}
-use mathlib.Core.Logic.{_↔_, _≢_}
-use mathlib.Core.Bool.{true, false, not}
-use mathlib.Core.List.{List, List·Memᴰ·head, Memᴰ·append-left, Memᴰ·append-right}
+use Prim.Native.Nat.{ℕ, _+_, _*_, _<_}
+use mathlib.Core.Path.{_≡_, refl, ap, ap₂, _∙_}
+use mathlib.Core.Logic.{_↔_, _≢_, inl, inr}
+use mathlib.Core.Bool.{Bool, true, false, not, _&&_, or-false}
+use mathlib.Core.List.{List, [], _∷_, map, List·Memᴰ·head, Memᴰ·append-left, Memᴰ·append-right}
 use native.Mathlib.Omega.{arith}
-use borrow.Author.Tests.{not-true, not-false}
+use lib.Dec.{ltb}
+use lib.ListN.{length}
+use borrow.Author.Tests.{not-true, not-false, ltb-true, le-ltb}
 use Rattle.sets.specs.Sets.{below}
-use Rattle.sets.proofs.Bools.{not-both}
+use Rattle.sets.proofs.Bools.{true-or-false, not-both}
 use Rattle.refusals.specs.declared.Refusal.the-variants.{RowOver}
-use Rattle.refusals.specs.Cases.{_names_, foundAt, applies, Given, Rising}
+use Rattle.refusals.specs.Refusals.{number}
+use Rattle.refusals.specs.Cases.{Case, _names_, foundAt, applies, First}
 use Rattle.refusals.proofs.CaseNumbers.{Numbered}
-use Rattle.refusals.proofs.FirstInOrder.{own-refusal, none-given}
-use Rattle.refusals.proofs.GivenExactlyWhen.{rising-numbered, given-exactly-when}
+use Rattle.refusals.proofs.FirstInOrder.{first-exactly-when, own-refusal, none-given}
 use Rattle.refusals.proofs.RowsReturned.{found-at, no-row}
 use Rattle.files.specs.declared.Lesson.{Lesson}
 use Rattle.files.specs.declared.Lesson.the-variants.{Read, Refused}
@@ -26,6 +28,13 @@ none-returned : (l : Lesson) → numberOf l ≢ 0 → (valuesOf l ≡ 0) × (cou
 none-returned (Read d t) ne = absurd (ne refl)
 none-returned (Refused r) ne = (refl, refl)
 
+-- no number is both below and above another
+not-both-ways : (m n : ℕ) → (ltb m n && ltb n m) ≡ false
+not-both-ways m n = elim (true-or-false (ltb m n)) [
+  | inl below ↦ rw (below, le-ltb n m (omega (arith, ltb-true m n below))) refl
+  | inr not-below ↦ rw not-below refl
+]
+
 module _ (file : List ℕ) (places : ℕ) where
   abbrev answer : Lesson
   answer = readAnswer file places
@@ -33,18 +42,27 @@ module _ (file : List ℕ) (places : ℕ) where
   abbrev accepts : Lesson
   accepts = Read (valuesIn file) (countIn file)
 
-  -- the cases stand in the order of their numbers, from 20 on
-  read-rising : Rising 19 (readCases file places)
+  -- '29 .. tried after 25 and before 26'
+  pub tried-in-order : map (λ (c : Case). number (c .refusal)) (readCases file places)
+      ≡ 20 ∷ 21 ∷ 22 ∷ 23 ∷ 24 ∷ 25 ∷ 29 ∷ 26 ∷ 27 ∷ 28 ∷ []
   unfolding frontCases rowCases
-  read-rising =
-      (omega arith, (omega arith, (omega arith, (omega arith, (omega arith, (omega arith, (omega arith, (omega arith, (omega arith, tt)))))))))
+  tried-in-order = refl
 
   numbered : Numbered (readCases file places)
-  numbered = rising-numbered 19 (readCases file places) read-rising
+  unfolding frontCases rowCases
+  numbered = record { no-zero = refl; once = (refl, (refl, (refl, (refl, (refl, (refl, (refl, (refl, (refl, (refl, tt)))))))))) }
 
-  pub read-exactly-when : (n : ℕ) → 0 < n → (numberOf (readAnswer file places) ≡ n) ↔ Given (readCases file places) n
+  -- a refusal is given exactly when its case applies and none that is tried before it does
+  pub read-exactly-when : (n : ℕ) → 0 < n → (numberOf (readAnswer file places) ≡ n) ↔ First (readCases file places) n
   unfolding readAnswer
-  read-exactly-when = given-exactly-when Refused numberOf (λ r. refl) accepts refl 19 (readCases file places) read-rising
+  read-exactly-when = first-exactly-when Refused numberOf (λ r. refl) accepts refl (readCases file places) numbered
+
+  -- 25 and 29 exclude each other: no file has both too few bytes and too many
+  pub not-cut-and-long : (applies (readCases file places) 25 && applies (readCases file places) 29) ≡ false
+  unfolding applies frontCases rowCases
+  not-cut-and-long =
+      let due = 8 + 8 * countIn file in
+      ap₂ (λ (a b : Bool). a && b) (or-false (ltb (length file) due)) (or-false (ltb due (length file))) ∙ not-both-ways (length file) due
 
   -- 'Accepted: d and T are returned'
   pub accepted-returns : numberOf answer ≡ 0 → (valuesOf answer ≡ valuesIn file) × (countOf answer ≡ countIn file) × (rowOf answer ≡ 0)

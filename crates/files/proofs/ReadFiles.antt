@@ -1,4 +1,4 @@
--- What is known of a file that is judged: one that is read has its T, and all its rows; and what is answered once the list is looked at.
+-- What is known of a file that is judged: one that is read has its T, and its rows and no more; and what is answered once the list is looked at.
 -- Assumes nothing.
 use Prim.Native.Nat.{ℕ, _+_, _*_, _≤_}
 use mathlib.Core.Path.{_≡_, sym, ap, _∙_}
@@ -35,17 +35,21 @@ module _ (file : List ℕ) where
   unfolding judged
   read-none d t e = not-refused Refused accepts (Read d t) (apart d t) (fileCases file) e
 
-  -- its T, and all its rows
+  -- its T, and its rows and no more
   pub record Readable (t : ℕ) : Type 0 where
     pub count : t ≡ countIn file
-    pub long : 8 + 8 * t ≤ length file
+    pub whole : length file ≡ 8 + 8 * t
 
   pub readable : (d t : ℕ) → judged file ≡ Read d t → Readable t
   unfolding frontCases
   readable d t e =
       let none = read-none d t e in
       let count : t ≡ countIn file = sym (ap countOf (none .1)) in
-      record { count = count; long = rw count (ltb-false (length file) (8 + 8 * countIn file) (none .0 .1 .1 .1 .1 .1 .0)) }
+      let front = none .0 .1 .1 .1 .1 in
+      let due = 8 + 8 * countIn file in
+      let enough : due ≤ length file = ltb-false (length file) due (front .1 .0) in
+      let no-more : length file ≤ due = ltb-false due (length file) (front .1 .1 .0) in
+      record { count = count; whole = omega (arith, enough, no-more, count) }
 
   module _ (places : ℕ) where
     -- the list is looked at where the file is read

@@ -1,5 +1,4 @@
--- Writing what was read: a file without unknown cells and without bytes behind its rows, read and saved again, is the same file byte by byte.
--- Assumes nothing.
+-- Writing what was read: an accepted file without unknown cells, read and saved again, is the same file byte by byte. Assumes nothing.
 use Prim.Native.Nat.{ℕ, zero, suc, _+_, _*_, _≤_, _<_}
 use mathlib.Core.Path.{_≡_, refl, sym, ap, ap₂, _∙_, subst}
 use mathlib.Core.Logic.{_≢_}
@@ -27,13 +26,13 @@ use Rattle.files.specs.Reading.{valuesOf, countOf, judged, readAnswer, f
 use Rattle.files.specs.Writing.{header, rowBytes, fileOf, writeAnswer, bufferAfter}
 use Rattle.files.proofs.ByteLaws.{bytes-again}
 use Rattle.files.proofs.RowLaws.{length-list, list-at, none-passes}
-use Rattle.files.proofs.ReadFiles.{read-none, read-judged}
+use Rattle.files.proofs.ReadFiles.{read-none, readable, read-judged}
 use Rattle.files.proofs.TableBytes.{row-bytes-append}
 use Rattle.files.proofs.TablesSaved.{saved}
 use Rattle.files.proofs.ReadBack.{right-narrow}
 
-module _ (file : List ℕ) (d t : ℕ) (bytes : AreBytes file) (read : judged file ≡ Read d t) (known : (i : ℕ) → i < t → rowIn file i ≢ 0)
-    (whole : length file ≡ 8 + 8 * t) where
+module _ (file : List ℕ) (d t : ℕ) (bytes : AreBytes file) (read : judged file ≡ Read d t)
+    (known : (i : ℕ) → i < t → rowIn file i ≢ 0) where
   -- ---- what is known of a file that is read
 
   values : valuesIn file ≡ d
@@ -41,6 +40,9 @@ module _ (file : List ℕ) (d t : ℕ) (bytes : AreBytes file) (read : judged fi
 
   count : countIn file ≡ t
   count = ap countOf (read-none file d t read .1)
+
+  whole : length file ≡ 8 + 8 * t
+  whole = readable file d t read .whole
 
   mark : markIn file ≡ 0x505654
   unfolding frontCases
@@ -98,7 +100,7 @@ module _ (file : List ℕ) (d t : ℕ) (bytes : AreBytes file) (read : judged fi
   row-below : (i : ℕ) → i < t → below d (rowIn file i) ≡ true
   unfolding frontCases rowCases
   row-below i h =
-      let over = not-found (rowOver file) (read-none file d t read .0 .1 .1 .1 .1 .1 .1 .0) in
+      let over = not-found (rowOver file) (read-none file d t read .0 .1 .1 .1 .1 .1 .1 .1 .0) in
       let low = none-passes (λ j. not (below (valuesIn file) (rowIn file j))) (countIn file) over i (omega (arith, h, count)) in
       ap (λ (n : ℕ). below n (rowIn file i)) (sym values) ∙ not-false (below (valuesIn file) (rowIn file i)) low
 
@@ -139,13 +141,13 @@ module _ (file : List ℕ) (d t : ℕ) (bytes : AreBytes file) (read : judged fi
       saved d (cellsIn file) room (parts-right mostRows d (cellsIn file) right) t (sym rows-count) (omega (arith, h, whole)) ∙ ap Length (sym whole)
 
 pub writing-what-was-read : (file list buffer : List ℕ) (d t : ℕ) → AreBytes file → readAnswer file (length (rowsOf list)) ≡ Read d t
-    → ((i : ℕ) → i < t → rowIn file i ≢ 0) → length file ≡ 8 + 8 * t → length file ≤ length buffer
+    → ((i : ℕ) → i < t → rowIn file i ≢ 0) → length file ≤ length buffer
     → let rows = take t (rowsOf (filled file list (Read d t))) in
     (writeAnswer d rows (length buffer) ≡ Length (length file))
     × (bufferAfter d rows buffer (Length (length file)) ≡ file ++ drop (length file) buffer)
-writing-what-was-read file list buffer d t bytes answer known whole room =
+writing-what-was-read file list buffer d t bytes answer known room =
     let read = read-judged file (length (rowsOf list)) d t answer in
-    let rows = rows-read file d t bytes read known whole list in (
-      ap (λ (l : List ℕ). writeAnswer d l (length buffer)) rows ∙ answers file d t bytes read known whole (length buffer) room,
-      ap (λ (l : List ℕ). l ++ drop (length file) buffer) (ap (fileOf d) rows ∙ same-bytes file d t bytes read known whole),
+    let rows = rows-read file d t bytes read known list in (
+      ap (λ (l : List ℕ). writeAnswer d l (length buffer)) rows ∙ answers file d t bytes read known (length buffer) room,
+      ap (λ (l : List ℕ). l ++ drop (length file) buffer) (ap (fileOf d) rows ∙ same-bytes file d t bytes read known),
     )

@@ -1,4 +1,5 @@
--- The refusals of a lesson file (the request, 'Lesson files'): 'Refusals, lowest first again'.
+-- The refusals of a lesson file (the request, 'Lesson files', and wish 2, 'Two lessons glued into one file'), in the order in which they are tried:
+-- the lists below are that order.
 use Prim.Native.Nat.{ℕ, zero, _+_, _*_}
 use mathlib.Core.Bool.{not, _&&_, _||_}
 use mathlib.Core.List.{List, [], _∷_, _++_}
@@ -8,14 +9,15 @@ use Rattle.sets.specs.Limits.{mostValues, mostRows}
 use Rattle.sets.specs.declared.Found.{Found}
 use Rattle.sets.specs.Sets.{below}
 use Rattle.sheet.specs.Upto.{allTo}
-use Rattle.refusals.specs.declared.Refusal.the-variants.{ShortFile, WrongMark, WrongVersion, BadValues, ManyRows, CutShort}
+use Rattle.refusals.specs.declared.Refusal.the-variants.{ShortFile, WrongMark, WrongVersion, BadValues, ManyRows, CutShort, LongFile}
 use Rattle.refusals.specs.declared.Refusal.the-variants.{RowOver, AllUnknown, FewPlaces}
 use Rattle.refusals.specs.Cases.{Case, _gives_, _names_}
 use Rattle.files.specs.Rows.{lowestTo}
 use Rattle.files.specs.Files.{markIn, versionIn, valuesIn, countIn, rowIn}
 
 module _ (file : List ℕ) where
-  -- '20 fewer than 8 bytes; 21 wrong mark; 22 version not 1; 23 d is 0 or above 64; 24 T above 256; 25 fewer than 8+8T bytes'
+  -- '20 fewer than 8 bytes; 21 wrong mark; 22 version not 1; 23 d is 0 or above 64; 24 T above 256; 25 fewer than 8+8T bytes', and
+  -- '29, the file is longer than 8+8T bytes, tried after 25 and before 26'
   unfoldable pub frontCases : List Case
   frontCases =
       (ltb (length file) 8 gives ShortFile)
@@ -24,6 +26,7 @@ module _ (file : List ℕ) where
       ∷ ((eqb (valuesIn file) zero || ltb mostValues (valuesIn file)) gives BadValues)
       ∷ (ltb mostRows (countIn file) gives ManyRows)
       ∷ (ltb (length file) (8 + 8 * countIn file) gives CutShort)
+      ∷ (ltb (8 + 8 * countIn file) (length file) gives LongFile)
       ∷ []
 
   -- the lowest row that 'has a value d or above'

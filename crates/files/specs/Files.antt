@@ -20,7 +20,7 @@ module _ (file : List ℕ) where
   abbrev pub countIn : ℕ
   countIn = big file 6 2
 
-  -- 'T rows of 8 bytes follow. Bytes after them are ignored.'
+  -- 'T rows of 8 bytes follow.'
   abbrev pub rowIn : ℕ → ℕ
   rowIn i = big file (8 + 8 * i) 8
 

@@ -1,4 +1,4 @@
-// Refusals 20 to 27: what the file alone decides.
+// Refusals 20 to 27, and 29: what the file alone decides.
 ghost use mathlib.Core.Path.{_≡_};
 ghost use Prim.Native.Nat.{_≤_, _+_, _*_};
 ghost use lib.ListN.{length};
@@ -33,7 +33,7 @@ fn judge_rows(file: &[u8], d: usize, t: usize) -> Lesson
     }
 }
 
-// d and T, or the lowest refusal.
+// d and T, or the refusal that is first in their order.
 pub fn judge(file: &[u8]) -> Lesson
     ensures { λ r. ⌜ r ≡ judged (now (file .entry)) ⌝ }
 {
@@ -59,6 +59,9 @@ pub fn judge(file: &[u8]) -> Lesson
     }
     if file.len() < 8 + 8 * t {
         return Lesson::Refused(Refusal::CutShort);
+    }
+    if 8 + 8 * t < file.len() {
+        return Lesson::Refused(Refusal::LongFile);
     }
     judge_rows(file, d, t)
 }

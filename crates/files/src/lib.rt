@@ -16,7 +16,7 @@ use sets::Row;
 use sheet::Sheet;
 
 mod numbers; // numbers.rt: numbers in bytes, and the rows of a file
-mod judge; // judge.rt: refusals 20 to 27
+mod judge; // judge.rt: refusals 20 to 27, and 29
 mod reader; // reader.rt: row by row
 mod writer; // writer.rt: a table's bytes, put into a buffer
 
@@ -76,7 +76,7 @@ fn fill(file: &[u8], t: usize, rows: &mut [u64])
     }
 }
 
-// A lesson file into a lent list: d and T, or the lowest refusal, with nothing written.
+// A lesson file into a lent list: d and T, or the refusal that is first in their order, with nothing written.
 pub fn read(file: &[u8], rows: &mut [u64]) -> Lesson
     ensures { λ r. ⌜ (r ≡ readAnswer (now (file .entry)) (length (rowsOf (now (rows .entry)))))
         × (now (rows .exit) ≡ filled (now (file .entry)) (now (rows .entry)) r) ⌝ }

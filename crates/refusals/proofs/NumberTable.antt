@@ -6,23 +6,24 @@ use native.Mathlib.Omega.{arith}
 use Rattle.refusals.specs.declared.Refusal.{Refusal}
 use Rattle.refusals.specs.declared.Refusal.the-variants.{TooLarge, BadRow, Unsound, OtherTable, NoDesk, NoRow, HiddenAlready, BadSet, Full}
 use Rattle.refusals.specs.declared.Refusal.the-variants.{NoRoom, ShortList, LongView, BadDesks, ShortFile, WrongMark, WrongVersion, BadValues}
-use Rattle.refusals.specs.declared.Refusal.the-variants.{ManyRows, CutShort, RowOver, AllUnknown, FewPlaces, ShortBuffer}
+use Rattle.refusals.specs.declared.Refusal.the-variants.{ManyRows, CutShort, RowOver, AllUnknown, FewPlaces, LongFile, ShortBuffer}
 use Rattle.refusals.specs.Refusals.{number, row}
 
 -- every refusal, with row i for refusal 2 and row j for refusal 26
 pub every : ℕ → ℕ → List Refusal
 every i j =
     TooLarge ∷ BadRow i ∷ Unsound ∷ OtherTable ∷ NoDesk ∷ NoRow ∷ HiddenAlready ∷ BadSet ∷ Full ∷ NoRoom ∷ ShortList ∷ LongView ∷ BadDesks
-    ∷ ShortFile ∷ WrongMark ∷ WrongVersion ∷ BadValues ∷ ManyRows ∷ CutShort ∷ RowOver j ∷ AllUnknown ∷ FewPlaces ∷ ShortBuffer ∷ []
+    ∷ ShortFile ∷ WrongMark ∷ WrongVersion ∷ BadValues ∷ ManyRows ∷ CutShort ∷ RowOver j ∷ AllUnknown ∷ FewPlaces ∷ LongFile ∷ ShortBuffer
+    ∷ []
 
 pub numbers-printed : (i j : ℕ)
-    → map number (every i j) ≡ 1 ∷ 2 ∷ 3 ∷ 4 ∷ 5 ∷ 6 ∷ 7 ∷ 8 ∷ 9 ∷ 10 ∷ 11 ∷ 12 ∷ 13 ∷ 20 ∷ 21 ∷ 22 ∷ 23 ∷ 24 ∷ 25 ∷ 26 ∷ 27 ∷ 28 ∷ 30 ∷ []
+    → map number (every i j) ≡ 1 ∷ 2 ∷ 3 ∷ 4 ∷ 5 ∷ 6 ∷ 7 ∷ 8 ∷ 9 ∷ 10 ∷ 11 ∷ 12 ∷ 13 ∷ 20 ∷ 21 ∷ 22 ∷ 23 ∷ 24 ∷ 25 ∷ 26 ∷ 27 ∷ 28 ∷ 29 ∷ 30 ∷ []
 unfolding every
 numbers-printed i j = refl
 
 -- '0 except where stated': for 2, and 'a row number (0 except for 26)'
 pub rows-printed : (i j : ℕ)
-    → map row (every i j) ≡ 0 ∷ i ∷ 0 ∷ 0 ∷ 0 ∷ 0 ∷ 0 ∷ 0 ∷ 0 ∷ 0 ∷ 0 ∷ 0 ∷ 0 ∷ 0 ∷ 0 ∷ 0 ∷ 0 ∷ 0 ∷ 0 ∷ j ∷ 0 ∷ 0 ∷ 0 ∷ []
+    → map row (every i j) ≡ 0 ∷ i ∷ 0 ∷ 0 ∷ 0 ∷ 0 ∷ 0 ∷ 0 ∷ 0 ∷ 0 ∷ 0 ∷ 0 ∷ 0 ∷ 0 ∷ 0 ∷ 0 ∷ 0 ∷ 0 ∷ 0 ∷ j ∷ 0 ∷ 0 ∷ 0 ∷ 0 ∷ []
 unfolding every
 rows-printed i j = refl
 
@@ -50,4 +51,5 @@ ten-no-room CutShort e = absurd (omega arith)
 ten-no-room (RowOver i) e = absurd (omega arith)
 ten-no-room AllUnknown e = absurd (omega arith)
 ten-no-room FewPlaces e = absurd (omega arith)
+ten-no-room LongFile e = absurd (omega arith)
 ten-no-room ShortBuffer e = absurd (omega arith)

@@ -3,7 +3,7 @@ use Prim.Native.Nat.{ℕ, zero}
 use Rattle.refusals.specs.declared.Refusal.{Refusal}
 use Rattle.refusals.specs.declared.Refusal.the-variants.{TooLarge, BadRow, Unsound, OtherTable, NoDesk, NoRow, HiddenAlready, BadSet, Full}
 use Rattle.refusals.specs.declared.Refusal.the-variants.{NoRoom, ShortList, LongView, BadDesks, ShortFile, WrongMark, WrongVersion, BadValues}
-use Rattle.refusals.specs.declared.Refusal.the-variants.{ManyRows, CutShort, RowOver, AllUnknown, FewPlaces, ShortBuffer}
+use Rattle.refusals.specs.declared.Refusal.the-variants.{ManyRows, CutShort, RowOver, AllUnknown, FewPlaces, LongFile, ShortBuffer}
 
 abbrev pub number : Refusal → ℕ
 number TooLarge = 1
@@ -28,6 +28,7 @@ number CutShort = 25
 number (RowOver i) = 26
 number AllUnknown = 27
 number FewPlaces = 28
+number LongFile = 29
 number ShortBuffer = 30
 
 -- 'A refusal returns its number and a row number (0 except where stated)'
@@ -54,4 +55,5 @@ row CutShort = zero
 row (RowOver i) = i
 row AllUnknown = zero
 row FewPlaces = zero
+row LongFile = zero
 row ShortBuffer = zero

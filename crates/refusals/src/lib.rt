@@ -28,6 +28,7 @@ pub enum Refusal {
     RowOver(usize),
     AllUnknown,
     FewPlaces,
+    LongFile,
     ShortBuffer,
 }
 
@@ -57,6 +58,7 @@ pub fn number(refusal: Refusal) -> usize
         Refusal::RowOver(_) => 26,
         Refusal::AllUnknown => 27,
         Refusal::FewPlaces => 28,
+        Refusal::LongFile => 29,
         Refusal::ShortBuffer => 30,
     }
 }
@@ -88,6 +90,7 @@ pub fn row(refusal: Refusal) -> usize
         Refusal::RowOver(i) => i,
         Refusal::AllUnknown => 0,
         Refusal::FewPlaces => 0,
+        Refusal::LongFile => 0,
         Refusal::ShortBuffer => 0,
     }
 }

@@ -11,6 +11,9 @@ const BEFORE: u8 = 77;
 // More than any file takes.
 const ROOM: usize = 2100;
 
+// The refusal of a file that has bytes behind its rows.
+const LONG_FILE: u64 = 29;
+
 // One row more than a table may have.
 pub const ROWS: usize = 257;
 
@@ -109,13 +112,23 @@ fn read_again(file: &[u8], d: usize, table: &[u64]) -> bool {
     }
 }
 
-// The bytes written, and the whole buffer, whatever stands behind them.
-fn both_again(buffer: &[u8], length: u64, d: usize, table: &[u64]) -> bool {
+// The number that a file is refused with, or 0.
+fn refusal_of(file: &[u8]) -> u64 {
+    let mut list = [0u64; ROWS];
+    let lesson = files::read(file, &mut list);
+    match lesson {
+        Lesson::Read(_, _) => 0,
+        Lesson::Refused(why) => refusals::number(why) as u64,
+    }
+}
+
+// The bytes written are a file; the whole buffer, which is longer, is none.
+fn read_alone(buffer: &[u8], length: u64, d: usize, table: &[u64]) -> bool {
     let n = length as usize;
     if buffer.len() < n {
         return false;
     }
-    read_again(&buffer[0..n], d, table) && read_again(buffer, d, table)
+    read_again(&buffer[0..n], d, table) && refusal_of(buffer) == LONG_FILE
 }
 
 // The answer in words.
@@ -159,7 +172,7 @@ fn right(
     if must.refusal != 0 {
         return true;
     }
-    both_again(whole, must.length, d, table)
+    read_alone(whole, must.length, d, table)
 }
 
 // Whether it came right, and the answer where it did not.
@@ -202,4 +215,16 @@ pub fn check_file(file: &[u8], bytes: &[u64]) -> bool {
             false
         }
     }
+}
+
+// A file must be refused with this number.
+pub fn check_refused(file: &[u8], number: u64) -> bool {
+    say(b"refused with #", &[number]);
+    let ours = refusal_of(file);
+    if ours == number {
+        text(b" - as it should\n");
+        return true;
+    }
+    say(b" - DIFFERS: #\n", &[ours]);
+    false
 }

@@ -2,8 +2,8 @@
 //     d rows set row *other =refusal row length /room @bytes
 // The table has so many rows of one set, but for one row, which has the other. The answer is what follows the =, the lent buffer has so many bytes,
 // and the file is these bytes; rows that are not written out are as the last one.
-// Where it has a < instead, it stands for a file, which is read and written again: after the < come its bytes, and after a > those that must be
-// written.
+// Where it has a < instead, it stands for a file: after the < come its bytes, and then after a > those that must be written once it is read, or
+// after an = the number that it must be refused with.
 use crate::check;
 use crate::check::ROWS;
 use crate::check::Said;
@@ -59,13 +59,20 @@ fn bytes(numbers: &[u64; MOST]) -> [u8; MOST] {
     file
 }
 
-fn file_trial(text: &[u8], must: &[u8]) -> bool {
+// The column of the number after an =.
+const REFUSAL: usize = 4;
+
+fn file_trial(text: &[u8], must: &[u8], refused: bool) -> bool {
     let mut numbers = [0u64; MOST];
     let length = texts::numbers(text, &mut numbers);
     let file = bytes(&numbers);
     let mut wanted = [0u64; MOST];
     let filled = texts::numbers(must, &mut wanted);
-    check::check_file(texts::front(&file, length), show::part(&wanted, 0, filled))
+    let file = texts::front(&file, length);
+    if refused {
+        return check::check_refused(file, wanted[REFUSAL]);
+    }
+    check::check_file(file, show::part(&wanted, 0, filled))
 }
 
 pub fn play(tally: Tally, line: &[u8]) -> Tally {
@@ -76,10 +83,14 @@ pub fn play(tally: Tally, line: &[u8]) -> Tally {
     }
     let file = texts::find(line, 0, b'<');
     text(&line[0..file]);
-    if file < line.len() {
-        let again = texts::find(line, file, b'>');
-        return tally.count(file_trial(&line[file..again], &line[again..]));
+    if file == line.len() {
+        text(b"\n");
+        return tally;
     }
-    text(b"\n");
-    tally
+    let refusal = texts::find(line, file, b'=');
+    if refusal < line.len() {
+        return tally.count(file_trial(&line[file..refusal], &line[refusal..], true));
+    }
+    let again = texts::find(line, file, b'>');
+    tally.count(file_trial(&line[file..again], &line[again..], false))
 }

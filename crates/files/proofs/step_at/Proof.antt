@@ -1,5 +1,6 @@
 -- `step_at` meets its contract. Assumes nothing.
 use mathlib.Core.Path.{refl, sym, _∙_}
+use native.Mathlib.Omega.{arith}
 use borrow.Author.Tests.{lt-ltb, le-ltb}
 use Rattle.files.specs.RowByRow.{stepAt}
 use Rattle.files.proofs.ReadFiles.{readable}
@@ -16,7 +17,7 @@ enum-known-lesson c = search needs
 cell-requires : tie.Need-cell-requires
 cell-requires c κs =
     let R = readable _ _ _ (sym (c .before .before .before .before .judge .ensures) ∙ c .before .before .lesson .given .1) in
-    (R .count, c .if1 .taken, R .long)
+    (R .count, c .if1 .taken, omega (arith, R .whole))
 
 add-t9 : tie.Need-add-t9
 add-t9 c = search needs

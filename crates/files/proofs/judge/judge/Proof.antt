@@ -1,5 +1,5 @@
 -- `judge` meets its contract: the tests in the order of `frontCases`, and then the rows. Assumes nothing.
-use Prim.Native.Nat.{ℕ}
+use Prim.Native.Nat.{ℕ, _+_, _*_}
 use mathlib.Core.Path.{_≡_, refl, sym, _∙_}
 use mathlib.Core.List.{List, _++_}
 use lib.ListN.{drop}
@@ -19,7 +19,7 @@ abbrev after : ℕ → List ℕ → Lesson
 after n file = decided Refused (drop n (frontCases file) ++ rowCases file) (Read (valuesIn file) (countIn file))
 
 -- after all of them, what `judge_rows` decides
-rows-after : (file : List ℕ) (d t : ℕ) → d ≡ valuesIn file → t ≡ countIn file → decided Refused (rowCases file) (Read d t) ≡ after 6 file
+rows-after : (file : List ℕ) (d t : ℕ) → d ≡ valuesIn file → t ≡ countIn file → decided Refused (rowCases file) (Read d t) ≡ after 7 file
 unfolding frontCases
 rows-after file d t values count = λ i. decided Refused (rowCases file) (Read (values i) (count i))
 
@@ -51,7 +51,12 @@ past-5 c = past-4 (c .before .before) ∙ rw (sym (c .before .big4 .ensures), le
 
 past-6 : (c : tie.Else7) → Past 6 (c .before .before .before .before .before .before .before .before .before .before .before .before .args .file .now)
 unfolding judged decided frontCases
-past-6 c = past-5 (c .before) ∙ rw (sym (c .before .before .big4 .ensures), le-ltb _ _ (c .if7 .left)) refl
+past-6 c = past-5 (c .before) ∙ rw (sym (c .before .before .big4 .ensures), le-ltb _ (8 + 8 * _) (c .if7 .left)) refl
+
+past-7 : (c : tie.Else8)
+    → Past 7 (c .before .before .before .before .before .before .before .before .before .before .before .before .before .args .file .now)
+unfolding judged decided frontCases
+past-7 c = past-6 (c .before) ∙ rw (sym (c .before .before .before .big4 .ensures), le-ltb (8 + 8 * _) _ (c .if8 .left)) refl
 
 returns : tie.Need-returns
 unfolding judged decided frontCases
@@ -99,17 +104,27 @@ add-if7 c = search needs
 
 returns-7 : tie.Need-returns-7
 unfolding judged decided frontCases
-returns-7 c = sym (past-5 (c .before) ∙ rw (sym (c .before .before .big4 .ensures), lt-ltb _ _ (c .if7 .taken)) refl)
+returns-7 c = sym (past-5 (c .before) ∙ rw (sym (c .before .before .big4 .ensures), lt-ltb _ (8 + 8 * _) (c .if7 .taken)) refl)
+
+mul-if8 : tie.Need-mul-if8
+mul-if8 c = search needs
+
+add-if8 : tie.Need-add-if8
+add-if8 c = search needs
+
+returns-8 : tie.Need-returns-8
+unfolding judged decided frontCases
+returns-8 c = sym (past-6 (c .before) ∙ rw (sym (c .before .before .before .big4 .ensures), lt-ltb (8 + 8 * _) _ (c .if8 .taken)) refl)
 
 judge-rows-requires : tie.Need-judge-rows-requires
 judge-rows-requires c κs = search needs
 
-returns-8 : tie.Need-returns-8
+returns-9 : tie.Need-returns-9
 unfolding judged decided frontCases
-returns-8 c =
-    let values = c .before .before .before .before .before .before .big3 .ensures in
-    let count = c .before .before .before .big4 .ensures in
-    c .judge-rows .ensures ∙ rows-after _ _ _ values count ∙ sym (past-6 (c .before))
+returns-9 c =
+    let values = c .before .before .before .before .before .before .before .big3 .ensures in
+    let count = c .before .before .before .before .big4 .ensures in
+    c .judge-rows .ensures ∙ rows-after _ _ _ values count ∙ sym (past-7 (c .before))
 
 pub judge-spec : {M : Type 1} → statement M
 judge-spec =
@@ -128,5 +143,8 @@ judge-spec =
     mul-if7
     add-if7
     returns-7
+    mul-if8
+    add-if8
+    returns-8
     judge-rows-requires
-    returns-8)
+    returns-9)
