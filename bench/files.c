@@ -53,6 +53,7 @@ static foliokettle_told peer_read(const uint8_t *file, size_t length, uint64_t *
     if (d == 0 || d > FOLIOKETTLE_VALUES) return refused(FOLIOKETTLE_BAD_VALUES, 0);
     if (count > FOLIOKETTLE_ROWS) return refused(FOLIOKETTLE_MANY_ROWS, 0);
     if (length < 8 + 8 * count) return refused(FOLIOKETTLE_CUT_SHORT, 0);
+    if (length > 8 + 8 * count) return refused(FOLIOKETTLE_LONG_FILE, 0);
     uint64_t all = 0;
     for (size_t i = 0; i < count; i++) {
         if (has_over(row_in(file, i), d)) return refused(FOLIOKETTLE_ROW_OVER, i);
@@ -157,15 +158,15 @@ static bool has_unknown(const uint8_t *file, size_t rows)
     return false;
 }
 
-/* A file that is read is written again: as the same bytes, where it has no unknown cell and ends with its rows. */
+/* A file that is read is written again: as the same bytes, where it has no unknown cell. */
 static void again(const uint8_t *file, size_t length, const table *t)
 {
     static uint8_t buffer[ROOM];
     foliokettle_told told = write_both(t, buffer, sizeof buffer);
     if (told.refusal != 0) fail("a table that was read is not saved");
     accepted++;
-    if (length != told.first || has_unknown(file, t->rows)) return;
-    if (memcmp(buffer, file, length) != 0) fail("a file is read and written as another");
+    if (has_unknown(file, t->rows)) return;
+    if (length != told.first || memcmp(buffer, file, length) != 0) fail("a file is read and written as another");
     same++;
 }
 

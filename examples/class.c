@@ -60,6 +60,7 @@ static void print_refusal(foliokettle_told told)
         [FOLIOKETTLE_ROW_OVER] = "a row of the file has a value that the column has not",
         [FOLIOKETTLE_ALL_UNKNOWN] = "all cells of the file are unknown",
         [FOLIOKETTLE_FEW_PLACES] = "the file has more rows than there are places",
+        [FOLIOKETTLE_LONG_FILE] = "the file has something behind its rows",
         [FOLIOKETTLE_SHORT_BUFFER] = "the buffer is too short for the file",
     };
     if (told.refusal == FOLIOKETTLE_NO_CALL) printf("refused: that is no call");
@@ -183,8 +184,8 @@ static foliokettle_told write_file(const server *s, uint8_t *buffer, size_t room
 
 /* ---- the teacher's file */
 
-/* As much of a file as is looked at. */
-static uint8_t bytes[FOLIOKETTLE_FILE];
+/* As much of a file as is looked at: with one byte more than any lesson, a longer file is seen to be longer. */
+static uint8_t bytes[FOLIOKETTLE_FILE + 1];
 
 static bool load(server *s, const char *name)
 {
@@ -201,7 +202,7 @@ static bool load(server *s, const char *name)
 
 static bool save(const server *s, const char *name)
 {
-    foliokettle_told told = write_file(s, bytes, sizeof bytes);
+    foliokettle_told told = write_file(s, bytes, FOLIOKETTLE_FILE);
     FILE *stream = told.refusal == 0 ? fopen(name, "wb") : NULL;
     if (stream == NULL) return false;
     bool whole = fwrite(bytes, 1, told.first, stream) == told.first;
@@ -323,6 +324,9 @@ static void files(server s)
     spoil(file, length, 6, 2);
     spoil(file, length, 39, 1 << 4);
     read_rows(file, length - 1, s.rows);
+    memcpy(file + length, file, length);
+    read_rows(file, length + 1, s.rows);
+    read_rows(file, 2 * length, s.rows);
     read_rows(file, 7, s.rows);
     read_rows(file, length, s.rows - 1);
     memset(file + 8, 0, length - 8);

@@ -67,7 +67,8 @@ enum {
     FOLIOKETTLE_DISTINCT      /* fills the front of the list with the kept positions and answers their number */
 };
 
-/* Why a call is refused: the lowest number that applies. A refused call changes nothing that is lent. */
+/* Why a call is refused: the lowest number that applies, but for files, where FOLIOKETTLE_LONG_FILE comes before
+   FOLIOKETTLE_ROW_OVER. A refused call changes nothing that is lent. */
 enum {
     FOLIOKETTLE_TOO_LARGE = 1,  /* d is 0 or above 64, or the table has over 256 rows */
     FOLIOKETTLE_BAD_ROW,        /* a table row is empty or has a value d or above; the lowest such row is told */
@@ -92,6 +93,7 @@ enum {
     FOLIOKETTLE_ROW_OVER,        /* a row has a value d or above; the lowest such row is told */
     FOLIOKETTLE_ALL_UNKNOWN,     /* it has rows, and all of them are unknown */
     FOLIOKETTLE_FEW_PLACES,      /* there are fewer places than it has rows */
+    FOLIOKETTLE_LONG_FILE,       /* it has bytes behind its last row; tried after FOLIOKETTLE_CUT_SHORT */
 
     FOLIOKETTLE_SHORT_BUFFER = 30 /* the buffer has fewer bytes than the table's file takes */
 };
@@ -120,13 +122,14 @@ foliokettle_told foliokettle_alter(foliokettle_sheet *sheet, const uint64_t *tab
 foliokettle_told foliokettle_distinct(size_t d, const uint64_t *view, size_t rows, size_t *list, size_t places);
 
 /* A lesson file becomes a table: its rows go to the front of `rows`, an unknown cell as all values of the file's rows
-   together; `first` is d and `second` the number of rows. Bytes behind the last row are ignored. It is refused with 20
-   to 28. FOLIOKETTLE_ROWS places do for any file. */
+   together; `first` is d and `second` the number of rows. It is refused with 20 to 29. FOLIOKETTLE_ROWS places do for
+   any file. `length` is that of the whole file: a host that looks at its first FOLIOKETTLE_FILE bytes alone can't see
+   that more stands behind them; with one byte more it can. */
 foliokettle_told foliokettle_read(const uint8_t *file, size_t length, uint64_t *rows, size_t places);
 
 /* A table becomes a lesson file: it goes to the front of the buffer, and `first` is its length, 8 + 8 * rows bytes; the
-   bytes behind it stay. It is refused with 1, 2 or 30. FOLIOKETTLE_FILE bytes do for any table. Read again, the file
-   gives back d and the same rows. */
+   bytes behind it stay. It is refused with 1, 2 or 30. FOLIOKETTLE_FILE bytes do for any table. Read again, the file,
+   which is those `first` bytes and no more, gives back d and the same rows. */
 foliokettle_told foliokettle_write(size_t d, const uint64_t *table, size_t rows, uint8_t *buffer, size_t room);
 
 /* The library lays the structs out so, and no compiler may do otherwise. */
