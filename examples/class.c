@@ -327,10 +327,13 @@ static void files(server s)
     memcpy(file + length, file, length);
     read_rows(file, length + 1, s.rows);
     read_rows(file, 2 * length, s.rows);
+    read_rows(file, 2 * length, s.rows - 1);
+    spoil(file, 2 * length, 39, 1 << 4);
     read_rows(file, 7, s.rows);
     read_rows(file, length, s.rows - 1);
     memset(file + 8, 0, length - 8);
     read_rows(file, length, s.rows);
+    read_rows(file, 2 * length, s.rows);
     write_file(&s, file, length - 1);
     s.d = 2;
     write_file(&s, file, length);
