@@ -5,7 +5,8 @@
 -- `Determined`: the contracts leave no choice.
 -- `ByteLaws`: numbers in bytes fit a word, and are read as they were put. `RowLaws`: the first n rows.
 -- `RowsJudged`: refusals 26 and 27 by what the code finds. `CellLaws`: a cell as it is read. `Filling`: words whose front is filled.
--- `ReadFiles`: what is known of a file that is judged. `MadeReader`: what a reader owns that is made of a file and a cursor.
+-- `FilesJudged`: a file by its parts, and by its cases. `ReadFiles`: what is known of a file that is judged.
+-- `MadeReader`: what a reader owns that is made of a file and a cursor.
 -- `TableBytes`: how many bytes a table takes. `Saving`: bytes put into a buffer, part by part. `TablesSaved`: what is answered of a table once
 -- it is judged.
 pub mod ReadExactlyWhen
@@ -22,6 +23,7 @@ pub mod RowLaws
 pub mod RowsJudged
 pub mod CellLaws
 pub mod Filling
+pub mod FilesJudged
 pub mod ReadFiles
 pub mod MadeReader
 pub mod TableBytes

@@ -2,17 +2,17 @@
 use Prim.Native.Nat.{ℕ, zero, suc, _+_, _*_, _^_, _≤_, _<_}
 use mathlib.Core.Path.{_≡_, refl, sym, ap, ap₂, _∙_, subst}
 use mathlib.Core.Logic.{_≢_}
-use mathlib.Core.Bool.{Bool, false, not, cond, _&&_, _||_}
+use mathlib.Core.Bool.{Bool, false, not, cond, _&&_}
 use mathlib.Core.List.{List, [], _∷_, _++_, append-assoc}
 use native.Mathlib.Nat.{not-suc-le-zero, le-of-suc-le-suc, le-trans}
 use native.Mathlib.Omega.{arith}
-use lib.Dec.{eqb, leb, ltb}
+use lib.Dec.{eqb, leb}
 use lib.ListN.{length, getD, take, drop, length-append, List·getD-append}
 use lib.Pow.{pow-mono}
 use lib.Seq.{ext-getD, take-at}
-use borrow.Author.Tests.{leb-true, eqb-true, eqb-false, not-true, eq-eqb, ne-eqb, le-ltb}
+use borrow.Author.Tests.{leb-true, eqb-true, eqb-false, not-true, ne-eqb, le-ltb}
 use Rattle.sets.specs.declared.Found.the-variants.{Nothing}
-use Rattle.sets.specs.Limits.{mostValues, mostRows}
+use Rattle.sets.specs.Limits.{mostRows}
 use Rattle.sets.specs.Sets.{below, within}
 use Rattle.sets.specs.Rows.{rowWords, width, rowsOf, inWords, asRow}
 use Rattle.sets.proofs.Bools.{and-left, and-right, is-false}
@@ -22,8 +22,7 @@ use Rattle.sets.proofs.LentRows.{rows-append, rows-drop, words-length, Narrow, 
 use Rattle.sheet.specs.Upto.{allTo}
 use Rattle.sheet.proofs.UptoLaws.{all-at}
 use Rattle.refusals.specs.declared.Refusal.the-variants.{FewPlaces}
-use Rattle.refusals.specs.Cases.{found}
-use Rattle.refusals.proofs.Outcomes.{NoneApplies, stands}
+use Rattle.refusals.proofs.Outcomes.{stands}
 use Rattle.refusals.proofs.TablesJudged.{TableRight}
 use Rattle.files.specs.declared.Lesson.the-variants.{Read}
 use Rattle.files.specs.declared.Lesson.the-variants as lesson
@@ -31,13 +30,14 @@ use Rattle.files.specs.declared.Saved.the-variants.{Length, Refused}
 use Rattle.files.specs.declared.NextRow.the-variants.{Cell, NoMore}
 use Rattle.files.specs.Bytes.{big, inBytes}
 use Rattle.files.specs.Files.{markIn, versionIn, valuesIn, countIn, rowIn, unionIn, cellIn, cellsIn}
-use Rattle.files.specs.FileCases.{frontCases, rowOver, rowCases, fileCases}
+use Rattle.files.specs.FileCases.{rowOver, fileCases}
 use Rattle.files.specs.Reading.{judged, readAnswer, filled}
 use Rattle.files.specs.RowByRow.{handedOut}
 use Rattle.files.specs.Writing.{header, rowBytes, fileOf, writeAnswer, bufferAfter}
 use Rattle.files.proofs.ByteLaws.{cap, bytes-length, big-again}
 use Rattle.files.proofs.TableBytes.{file-length}
 use Rattle.files.proofs.RowLaws.{length-list, list-at, lowest-none}
+use Rattle.files.proofs.FilesJudged.{FileRight, right-none}
 use Rattle.files.proofs.ReadFiles.{then-places}
 use Rattle.files.proofs.TablesSaved.{saved-right}
 use Rattle.files.proofs.ReaderTurns.{rows-in-turn, then-no-more}
@@ -144,24 +144,27 @@ module _ (d : ℕ) (table : List ℕ) (right : TableRight mostRows d table) wher
       let first = all-at (λ i. eqb (rowIn file i) zero) (countIn file) (and-right (leb 1 (countIn file)) none-known e) zero some in
       row-not zero (omega (arith, some, count)) (eqb-true (rowIn file zero) zero first))
 
-  none-applies : NoneApplies (fileCases file)
-  unfolding frontCases rowCases
-  none-applies =
+  facts : FileRight file
+  facts =
       let long = file-length d table in
-      let front : ltb (length file) 8 ≡ false = le-ltb (length file) 8 (omega (arith, long)) in
-      let marked = ap not (eq-eqb (markIn file) 0x505654 mark) in
-      let first = ap not (eq-eqb (versionIn file) 1 version) in
-      let some : eqb d zero ≡ false = ne-eqb d zero (λ e. omega (arith, right .some-value)) in
-      let column : (eqb (valuesIn file) zero || ltb mostValues (valuesIn file)) ≡ false = rw (values, some) (le-ltb mostValues d (right .values)) in
-      let few : ltb mostRows (countIn file) ≡ false = le-ltb mostRows (countIn file) (omega (arith, count, right .small)) in
-      let due = 8 + 8 * countIn file in
-      let all : ltb (length file) due ≡ false = le-ltb (length file) due (omega (arith, count, long)) in
-      let no-more : ltb due (length file) ≡ false = le-ltb due (length file) (omega (arith, count, long)) in
-      (front, (marked, (first, (column, (few, (all, (no-more, (ap found none-over, (some-known, tt)))))))))
+      let some : valuesIn file ≢ zero = λ e. omega (arith, e, values, right .some-value) in
+      record {
+        front = record {
+          header = omega (arith, long);
+          mark = mark;
+          version = version;
+          some-value = some;
+          values = omega (arith, values, right .values);
+          few = omega (arith, count, right .small);
+        };
+        whole = omega (arith, long, count);
+        none-over = none-over;
+        some-known = some-known;
+      }
 
   read : judged file ≡ Read d t
   unfolding judged
-  read = stands lesson.Refused (fileCases file) none-applies (Read (valuesIn file) (countIn file)) ∙ (λ i. Read (values i) (count i))
+  read = stands lesson.Refused (fileCases file) (right-none file facts) (Read (valuesIn file) (countIn file)) ∙ (λ i. Read (values i) (count i))
 
   -- ---- at once, and row by row
 

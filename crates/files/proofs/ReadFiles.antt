@@ -1,6 +1,6 @@
--- What is known of a file that is judged: one that is read has its T, and its rows and no more; and what is answered once the list is looked at.
+-- What is known of a file that is judged: one that is read has its d and T, its rows and no more; and what is answered once the list is looked at.
 -- Assumes nothing.
-use Prim.Native.Nat.{ℕ, _+_, _*_, _≤_}
+use Prim.Native.Nat.{ℕ, _+_, _*_}
 use mathlib.Core.Path.{_≡_, sym, ap, _∙_}
 use mathlib.Core.Logic.{_≢_}
 use mathlib.Core.Bool.{cond}
@@ -8,7 +8,6 @@ use mathlib.Core.List.{List}
 use native.Mathlib.Omega.{arith}
 use lib.Dec.{ltb}
 use lib.ListN.{length}
-use borrow.Author.Tests.{ltb-false}
 use Rattle.refusals.specs.declared.Refusal.{Refusal}
 use Rattle.refusals.specs.declared.Refusal.the-variants.{FewPlaces}
 use Rattle.refusals.specs.Cases.{decided}
@@ -16,8 +15,9 @@ use Rattle.refusals.proofs.Outcomes.{NoneApplies, none-first, stands, stands-fi
 use Rattle.files.specs.declared.Lesson.{Lesson}
 use Rattle.files.specs.declared.Lesson.the-variants.{Read, Refused}
 use Rattle.files.specs.Files.{valuesIn, countIn}
-use Rattle.files.specs.FileCases.{frontCases, fileCases, placeCases, readCases}
-use Rattle.files.specs.Reading.{countOf, judged, readAnswer}
+use Rattle.files.specs.FileCases.{fileCases, placeCases, readCases}
+use Rattle.files.specs.Reading.{valuesOf, countOf, judged, readAnswer}
+use Rattle.files.proofs.FilesJudged.{FileRight, file-right}
 
 -- no refusal is an answer that the file is read
 apart : (d t : ℕ) (r : Refusal) → Refused r ≢ Read d t
@@ -31,25 +31,23 @@ module _ (file : List ℕ) where
   accepts = Read (valuesIn file) (countIn file)
 
   -- where it is read, no case applies
-  pub read-none : (d t : ℕ) → judged file ≡ Read d t → NoneApplies (fileCases file) × (accepts ≡ Read d t)
+  read-none : (d t : ℕ) → judged file ≡ Read d t → NoneApplies (fileCases file) × (accepts ≡ Read d t)
   unfolding judged
   read-none d t e = not-refused Refused accepts (Read d t) (apart d t) (fileCases file) e
 
-  -- its T, and its rows and no more
-  pub record Readable (t : ℕ) : Type 0 where
+  -- its d and T, its rows and no more, and all else that is asked of it
+  pub record Readable (d t : ℕ) : Type 0 where
+    pub values : d ≡ valuesIn file
     pub count : t ≡ countIn file
     pub whole : length file ≡ 8 + 8 * t
+    pub right : FileRight file
 
-  pub readable : (d t : ℕ) → judged file ≡ Read d t → Readable t
-  unfolding frontCases
+  pub readable : (d t : ℕ) → judged file ≡ Read d t → Readable d t
   readable d t e =
       let none = read-none d t e in
+      let right = file-right file (none .0) in
       let count : t ≡ countIn file = sym (ap countOf (none .1)) in
-      let front = none .0 .1 .1 .1 .1 in
-      let due = 8 + 8 * countIn file in
-      let enough : due ≤ length file = ltb-false (length file) due (front .1 .0) in
-      let no-more : length file ≤ due = ltb-false due (length file) (front .1 .1 .0) in
-      record { count = count; whole = omega (arith, enough, no-more, count) }
+      record { values = sym (ap valuesOf (none .1)); count = count; whole = omega (arith, right .whole, count); right = right }
 
   module _ (places : ℕ) where
     -- the list is looked at where the file is read

@@ -1,32 +1,32 @@
 -- Writing what was read: an accepted file without unknown cells, read and saved again, is the same file byte by byte. Assumes nothing.
 use Prim.Native.Nat.{ℕ, zero, suc, _+_, _*_, _≤_, _<_}
-use mathlib.Core.Path.{_≡_, refl, sym, ap, ap₂, _∙_, subst}
+use mathlib.Core.Path.{_≡_, refl, sym, ap, ap₂, _∙_}
 use mathlib.Core.Logic.{_≢_}
 use mathlib.Core.Bool.{Bool, true, false, not, cond}
 use mathlib.Core.List.{List, [], _∷_, _++_, append-nil}
 use native.Mathlib.Omega.{arith}
-use lib.Dec.{eqb, ltb}
+use lib.Dec.{eqb}
 use lib.ListN.{length, take, drop, length-drop, take-append-drop}
 use lib.Seq.{take-all, take-at, take-add, drop-drop}
-use borrow.Author.Tests.{eqb-true, eqb-false, ltb-false, not-false, ne-eqb}
-use Rattle.sets.specs.Limits.{mostValues, mostRows}
+use borrow.Author.Tests.{not-false, ne-eqb}
+use Rattle.sets.specs.Limits.{mostRows}
 use Rattle.sets.specs.Sets.{below, within}
 use Rattle.sets.specs.Rows.{rowWords, rowsOf, inWords}
 use Rattle.sets.proofs.Bools.{and-both, false-not}
 use Rattle.sets.proofs.BadRows.{AllWithin, none-bad}
 use Rattle.sets.proofs.LentRows.{rows-append, words-length, rows-words}
-use Rattle.refusals.proofs.TablesJudged.{TableRight, or-no, not-found, parts-right}
+use Rattle.refusals.proofs.TablesJudged.{TableRight, parts-right}
 use Rattle.files.specs.declared.Lesson.the-variants.{Read}
 use Rattle.files.specs.declared.Saved.the-variants.{Length}
 use Rattle.files.specs.Bytes.{big, inBytes, AreBytes}
 use Rattle.files.specs.Rows.{listTo}
-use Rattle.files.specs.Files.{markIn, versionIn, valuesIn, countIn, rowIn, unionIn, cellIn, cellsIn}
-use Rattle.files.specs.FileCases.{frontCases, rowOver, rowCases}
-use Rattle.files.specs.Reading.{valuesOf, countOf, judged, readAnswer, filled}
+use Rattle.files.specs.Files.{valuesIn, countIn, rowIn, unionIn, cellIn, cellsIn}
+use Rattle.files.specs.Reading.{judged, readAnswer, filled}
 use Rattle.files.specs.Writing.{header, rowBytes, fileOf, writeAnswer, bufferAfter}
 use Rattle.files.proofs.ByteLaws.{bytes-again}
 use Rattle.files.proofs.RowLaws.{length-list, list-at, none-passes}
-use Rattle.files.proofs.ReadFiles.{read-none, readable, read-judged}
+use Rattle.files.proofs.FilesJudged.{HeaderRight}
+use Rattle.files.proofs.ReadFiles.{Readable, readable, read-judged}
 use Rattle.files.proofs.TableBytes.{row-bytes-append}
 use Rattle.files.proofs.TablesSaved.{saved}
 use Rattle.files.proofs.ReadBack.{right-narrow}
@@ -35,22 +35,20 @@ module _ (file : List ℕ) (d t : ℕ) (bytes : AreBytes file) (read : judged fi
     (known : (i : ℕ) → i < t → rowIn file i ≢ 0) where
   -- ---- what is known of a file that is read
 
+  facts : Readable file d t
+  facts = readable file d t read
+
+  header-right : HeaderRight file
+  header-right = facts .right .front
+
   values : valuesIn file ≡ d
-  values = ap valuesOf (read-none file d t read .1)
+  values = sym (facts .values)
 
   count : countIn file ≡ t
-  count = ap countOf (read-none file d t read .1)
+  count = sym (facts .count)
 
   whole : length file ≡ 8 + 8 * t
-  whole = readable file d t read .whole
-
-  mark : markIn file ≡ 0x505654
-  unfolding frontCases
-  mark = eqb-true (markIn file) 0x505654 (not-false (eqb (markIn file) 0x505654) (read-none file d t read .0 .1 .0))
-
-  version : versionIn file ≡ 1
-  unfolding frontCases
-  version = eqb-true (versionIn file) 1 (not-false (eqb (versionIn file) 1) (read-none file d t read .0 .1 .1 .0))
+  whole = facts .whole
 
   cell : (i : ℕ) → i < t → cellIn file i ≡ rowIn file i
   unfolding cellIn
@@ -64,7 +62,7 @@ module _ (file : List ℕ) (d t : ℕ) (bytes : AreBytes file) (read : judged fi
   header-again : header d t ≡ take 8 file
   unfolding header
   header-again =
-      sym (λ i. inBytes 3 (mark i) ++ inBytes 2 (version i) ++ inBytes 1 (values i) ++ inBytes 2 (count i))
+      sym (λ i. inBytes 3 (header-right .mark i) ++ inBytes 2 (header-right .version i) ++ inBytes 1 (values i) ++ inBytes 2 (count i))
       ∙ (λ i. part 0 3 (omega arith) i ++ part 3 2 (omega arith) i ++ part 5 1 (omega arith) i ++ part 6 2 (omega arith) i)
       ∙ sym (take-add 6 2 file ∙ ap (λ (l : List ℕ). l ++ take 2 (drop 6 file))
       (take-add 5 1 file ∙ ap (λ (l : List ℕ). l ++ take 1 (drop 5 file)) (take-add 3 2 file)))
@@ -98,9 +96,8 @@ module _ (file : List ℕ) (d t : ℕ) (bytes : AreBytes file) (read : judged fi
   -- ---- its rows are a table that is right
 
   row-below : (i : ℕ) → i < t → below d (rowIn file i) ≡ true
-  unfolding frontCases rowCases
   row-below i h =
-      let over = not-found (rowOver file) (read-none file d t read .0 .1 .1 .1 .1 .1 .1 .1 .0) in
+      let over = facts .right .none-over in
       let low = none-passes (λ j. not (below (valuesIn file) (rowIn file j))) (countIn file) over i (omega (arith, h, count)) in
       ap (λ (n : ℕ). below n (rowIn file i)) (sym values) ∙ not-false (below (valuesIn file) (rowIn file i)) low
 
@@ -113,18 +110,12 @@ module _ (file : List ℕ) (d t : ℕ) (bytes : AreBytes file) (read : judged fi
       ∙ and-both (not (eqb (rowIn file i) zero)) (below d (rowIn file i)) (false-not (eqb (rowIn file i) zero) some) (row-below i here)
 
   right : TableRight mostRows d (cellsIn file)
-  unfolding frontCases
-  right =
-      let none = read-none file d t read .0 in
-      let column = or-no (eqb (valuesIn file) zero) (ltb mostValues (valuesIn file)) (none .1 .1 .1 .0) in
-      let some : valuesIn file ≡ zero → ⊥ = eqb-false (valuesIn file) zero (column .0) in
-      let few : countIn file ≤ mostRows = ltb-false mostRows (countIn file) (none .1 .1 .1 .1 .0) in
-      record {
-        some-value = omega (arith, some, values);
-        values = subst (λ (n : ℕ). n ≤ mostValues) values (ltb-false mostValues (valuesIn file) (column .1));
-        small = omega (arith, few, count, rows-count);
-        none-bad = none-bad d (cellsIn file) all-within;
-      }
+  right = record {
+    some-value = omega (arith, header-right .some-value, values);
+    values = omega (arith, header-right .values, values);
+    small = omega (arith, header-right .few, count, rows-count);
+    none-bad = none-bad d (cellsIn file) all-within;
+  }
 
   -- ---- read into a list, and written to a buffer
 
