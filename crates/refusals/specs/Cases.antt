@@ -42,7 +42,7 @@ unfoldable pub applies : List Case → ℕ → Bool
 applies [] n = false
 applies (c ∷ cs) n = (eqb (number (c .refusal)) n && c .applies) || applies cs n
 
--- number n is to be given: its case applies, and none of a lower number does
+-- number n is to be given, where the lowest is: its case applies, and none of a lower number does
 abbrev pub Given : List Case → ℕ → Type 0
 Given cs n = (applies cs n ≡ true) × ((m : ℕ) → m < n → applies cs m ≡ false)
 
@@ -51,7 +51,7 @@ unfoldable pub triedBefore : List Case → ℕ → List Case
 triedBefore [] n = []
 triedBefore (c ∷ cs) n = cond (eqb (number (c .refusal)) n) [] (c ∷ triedBefore cs n)
 
--- number n comes first: its case applies, and none that is tried before it does
+-- number n is to be given, where the first is: its case applies, and none that is tried before it does
 abbrev pub First : List Case → ℕ → Type 0
 First cs n = (applies cs n ≡ true) × ((m : ℕ) → applies (triedBefore cs n) m ≡ false)
 

@@ -11,6 +11,9 @@ use show::Tally;
 use show::text;
 use show::texts;
 
+// The number after an = stands in this column.
+const REFUSAL: usize = 4;
+
 // The bytes of a line begin at this column.
 const BYTES: usize = 11;
 
@@ -59,9 +62,7 @@ fn bytes(numbers: &[u64; MOST]) -> [u8; MOST] {
     file
 }
 
-// The column of the number after an =.
-const REFUSAL: usize = 4;
-
+// A file that is read and written again, or refused.
 fn file_trial(text: &[u8], must: &[u8], refused: bool) -> bool {
     let mut numbers = [0u64; MOST];
     let length = texts::numbers(text, &mut numbers);
