@@ -1,5 +1,5 @@
 -- Sets with no value d or above: smaller than 2 ^ d, and the other way; a set that is not empty has a value. Assumes nothing.
-use Prim.Native.Nat.{ℕ, zero, suc, _-_, _*_, _/_, _%_, _^_, _<_}
+use Prim.Native.Nat.{ℕ, zero, suc, _*_, _/_, _%_, _^_, _<_, _≤_}
 use mathlib.Core.Path.{_≡_, refl, sym, ap, _∙_, subst}
 use mathlib.Core.Logic.{_≢_, _⊎_, inl, inr}
 use mathlib.Core.Bool.{true, false, not, _&&_, false≢true}
@@ -11,7 +11,7 @@ use lib.Bits.{bitAnd}
 use lib.Dec.{eqb}
 use lib.Pow.{pow-mono, pow-pos, ones-lt}
 use borrow.Author.Tests.{lt-ltb, ltb-true, eqb-false, eq-eqb, ne-eqb, not-true}
-use Rattle.sets.specs.Sets.{has, subset, minus, below, within}
+use Rattle.sets.specs.Sets.{has, all, subset, minus, below, within}
 use Rattle.sets.proofs.Bools.{and-left, and-right, and-both, true-or-false, not-both, bool-ext}
 use Rattle.sets.proofs.Values.{has-and, has-empty, has-zero, has-suc, minus-in, minus-out, set-ext}
 use Rattle.sets.proofs.Subsets.{subset-has, has-subset}
@@ -50,26 +50,33 @@ less-has (suc d) r f =
 
 -- ---- all values below d
 
-all-half : (k : ℕ) → ((2 ^ suc k - 1) / 2 ≡ 2 ^ k - 1) × ((2 ^ suc k - 1) % 2 ≡ 1)
+all-half : (k : ℕ) → (all (suc k) / 2 ≡ all k) × (all (suc k) % 2 ≡ 1)
 all-half k = let double : 2 ^ suc k ≡ 2 ^ k * 2 = pow-suc 2 k in (omega (arith, pow-pos k), omega (arith, pow-pos k))
 
-pub all-has : (d v : ℕ) → v < d → has (2 ^ d - 1) v ≡ true
+pub all-has : (d v : ℕ) → v < d → has (all d) v ≡ true
 all-has zero v h = absurd (not-suc-le-zero h)
-all-has (suc d) zero h = has-zero (2 ^ suc d - 1) ∙ ap (λ (x : ℕ). eqb x 1) (all-half d .1)
-all-has (suc d) (suc v) h = has-suc (2 ^ suc d - 1) v ∙ ap (λ (x : ℕ). has x v) (all-half d .0) ∙ all-has d v (le-of-suc-le-suc h)
+all-has (suc d) zero h = has-zero (all (suc d)) ∙ ap (λ (x : ℕ). eqb x 1) (all-half d .1)
+all-has (suc d) (suc v) h = has-suc (all (suc d)) v ∙ ap (λ (x : ℕ). has x v) (all-half d .0) ∙ all-has d v (le-of-suc-le-suc h)
 
-pub has-all : (d v : ℕ) → has (2 ^ d - 1) v ≡ true → v < d
-has-all d v t = has-less d (2 ^ d - 1) v (ones-lt d) t
+pub has-all : (d v : ℕ) → has (all d) v ≡ true → v < d
+has-all d v t = has-less d (all d) v (ones-lt d) t
 
 -- no value d or above: a subset of those below d
-pub below-all : (d r : ℕ) → subset r (2 ^ d - 1) ≡ below d r
-below-all d r = bool-ext (subset r (2 ^ d - 1)) (below d r) inside outside
+pub below-all : (d r : ℕ) → subset r (all d) ≡ below d r
+below-all d r = bool-ext (subset r (all d)) (below d r) inside outside
   where
-    inside : subset r (2 ^ d - 1) ≡ true → below d r ≡ true
-    inside s = less-below d r (less-has d r (λ v h. has-all d v (subset-has r (2 ^ d - 1) s v h)))
+    inside : subset r (all d) ≡ true → below d r ≡ true
+    inside s = less-below d r (less-has d r (λ v h. has-all d v (subset-has r (all d) s v h)))
 
-    outside : below d r ≡ true → subset r (2 ^ d - 1) ≡ true
-    outside b = has-subset r (2 ^ d - 1) (λ v h. all-has d v (has-less d r v (below-less d r b) h))
+    outside : below d r ≡ true → subset r (all d) ≡ true
+    outside b = has-subset r (all d) (λ v h. all-has d v (has-less d r v (below-less d r b) h))
+
+-- they are a row of the column, where it has a value
+pub all-within : (d : ℕ) → 1 ≤ d → within d (all d) ≡ true
+unfolding within
+all-within d h =
+    let some : all d ≢ zero = λ e. omega (arith, e, pow-mono h) in
+    and-both (not (eqb (all d) zero)) (below d (all d)) (ap not (ne-eqb (all d) zero some)) (less-below d (all d) (ones-lt d))
 
 -- ---- a value of a set that is not empty
 
@@ -103,25 +110,25 @@ within-has d r v e h = has-less d r v (within-less d r e) h
 -- ---- a subset has nothing outside
 
 -- so that one test against the values that b has not answers for any a
-pub subset-outside : (k a b : ℕ) → a < 2 ^ k → eqb (bitAnd a (minus (2 ^ k - 1) b)) zero ≡ subset a b
+pub subset-outside : (k a b : ℕ) → a < 2 ^ k → eqb (bitAnd a (minus (all k) b)) zero ≡ subset a b
 subset-outside k a b h = elim (true-or-false (subset a b)) [
   | inl s ↦ eq-eqb (bitAnd a out) zero (set-ext (bitAnd a out) zero (λ v. nothing s v (true-or-false (has (bitAnd a out) v)))) ∙ sym s
   | inr n ↦ ne-eqb (bitAnd a out) zero (λ z. not-both (has-subset a b (λ v t. in-b z v t (true-or-false (has b v)))) n) ∙ sym n
 ]
   where
     out : ℕ
-    out = minus (2 ^ k - 1) b
+    out = minus (all k) b
 
     nothing : subset a b ≡ true → (v : ℕ) → (has (bitAnd a out) v ≡ true) ⊎ (has (bitAnd a out) v ≡ false) → has (bitAnd a out) v ≡ has zero v
     nothing s v (inr e) = e ∙ sym (has-empty v)
     nothing s v (inl e) =
         let both : (has a v && has out v) ≡ true = sym (has-and a out v) ∙ e in
         absurd
-        (not-both (subset-has a b s v (and-left (has a v) (has out v) both)) (minus-out (2 ^ k - 1) b v (and-right (has a v) (has out v) both) .1))
+        (not-both (subset-has a b s v (and-left (has a v) (has out v) both)) (minus-out (all k) b v (and-right (has a v) (has out v) both) .1))
 
     in-b : bitAnd a out ≡ zero → (v : ℕ) → has a v ≡ true → (has b v ≡ true) ⊎ (has b v ≡ false) → has b v ≡ true
     in-b z v t (inl e) = e
     in-b z v t (inr e) =
         absurd
-        (not-both (has-and a out v ∙ and-both (has a v) (has out v) t (minus-in (2 ^ k - 1) b v (all-has k v (has-less k a v h t)) e))
+        (not-both (has-and a out v ∙ and-both (has a v) (has out v) t (minus-in (all k) b v (all-has k v (has-less k a v h t)) e))
         (ap (λ (x : ℕ). has x v) z ∙ has-empty v))

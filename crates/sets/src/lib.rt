@@ -1,11 +1,11 @@
 // A row by value: a set of values. What knows its words stands first, then what goes by sets alone.
 ghost use mathlib.Core.Path.{_≡_};
 ghost use mathlib.Core.Bool.{not};
-ghost use Prim.Native.Nat.{zero, _-_, _^_, _<_, _≤_};
+ghost use Prim.Native.Nat.{zero, _-_, _<_, _≤_};
 ghost use lib.Bits.{bitAnd, bitOr, bitXor};
 ghost use lib.Count.{ones, trailingZeros, leadingZeros};
 ghost use lib.Dec.{eqb};
-ghost use Rattle.sets.specs.Sets.{has, single, subset, minus, below, within};
+ghost use Rattle.sets.specs.Sets.{has, single, all, subset, minus, below, within};
 ghost use Rattle.sets.specs.Rows.{width, bits, Holds, tagOf};
 
 pub mod word; // word.rt: one word as a set
@@ -110,7 +110,7 @@ pub fn single(v: usize) -> Row
 // The set of all values below d.
 pub fn all(d: usize) -> Row
     requires { ⌜ d ≤ width ⌝ }
-    ensures { λ r. ⌜ bits r ≡ 2 ^ d - 1 ⌝ }
+    ensures { λ r. ⌜ Holds r (all d) ⌝ }
 {
     Row { low: word::all(d) }
 }

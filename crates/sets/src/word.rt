@@ -1,9 +1,9 @@
 // One word as a set: what marks and tags are, and what a row is made of.
 ghost use mathlib.Core.Path.{_≡_};
-ghost use Prim.Native.Nat.{_-_, _^_, _<_, _≤_};
+ghost use Prim.Native.Nat.{_<_, _≤_};
 ghost use lib.Bits.{bitOr};
 ghost use Rattle.sets.specs.Limits.{wordBits};
-ghost use Rattle.sets.specs.Sets.{has, single, subset, minus};
+ghost use Rattle.sets.specs.Sets.{has, single, all, subset, minus};
 
 // How many bits a word has.
 pub const BITS: usize = 64;
@@ -48,7 +48,7 @@ pub fn with(set: u64, v: usize) -> u64
 // The set of all values below d.
 pub fn all(d: usize) -> u64
     requires { ⌜ d ≤ wordBits ⌝ }
-    ensures { λ r. ⌜ r ≡ 2 ^ d - 1 ⌝ }
+    ensures { λ r. ⌜ r ≡ all d ⌝ }
 {
     if d < BITS {
         (1 << d) - 1

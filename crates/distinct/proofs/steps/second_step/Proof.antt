@@ -30,7 +30,7 @@ empty-requires c κs = search needs
 loop-holds : tie.Need-loop-holds Inv-loop μ-loop
 loop-holds c =
     let e = c .before .before .before .before .before .before .before in
-    let start = pairs-start (e .args .d) (rowsOf (e .args .view .now)) (e .pre .0 .1) _ _ (c .before .all .ensures) (c .empty .ensures .0) in (
+    let start = pairs-start (e .args .d) (rowsOf (e .args .view .now)) (e .pre .0 .1) _ _ (c .before .all .ensures .0) (c .empty .ensures .0) in (
       rw (e .pre .1 .1) (start (e .args .keep .now) (rowsOf (e .args .rows .now)) (e .args .mates .now) (e .pre .0 .0) (e .pre .1 .0) (e .pre .1 .2)),
       refl,
       refl,

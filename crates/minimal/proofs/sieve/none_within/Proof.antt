@@ -86,7 +86,7 @@ returns c =
     let r = read-meets others (t .before .row-at3 .ensures .0) (t .meets3 .ensures) in
     let s = read-meets others (d .before .row-at4 .ensures .0) (d .meets4 .ensures) in
     let miss = four-some (rowsOf (start made .args .mins .now)) others (l .loop .next) p q r s (c .if1 .taken) in
-    scan-some _ _ (made .before .all .ensures) (made .minus .ensures) _ (miss .0)
+    scan-some _ _ (made .before .all .ensures .0) (made .minus .ensures) _ (miss .0)
     (omega (arith, miss .1, a .before .before .loop-test .taken)) (miss .2)
 
 add-next : tie.Need-add-next Inv-loop μ-loop Inv-loop2 μ-loop2
@@ -127,7 +127,7 @@ returns-2 c =
     let read = c .before .before in
     let made = read .before .before .before .before .before in
     let answer = read-meets (bits (made .minus .result)) (read .row-at5 .ensures .0) (c .before .meets5 .ensures) in
-    scan-some _ _ (made .before .all .ensures) (made .minus .ensures) _ _ (read .before .loop2-test .taken)
+    scan-some _ _ (made .before .all .ensures .0) (made .minus .ensures) _ _ (read .before .loop2-test .taken)
     (sym answer ∙ not-true _ (c .if2 .taken))
 
 add-next-2 : tie.Need-add-next-2 Inv-loop μ-loop Inv-loop2 μ-loop2
@@ -150,7 +150,7 @@ returns-3 : tie.Need-returns-3 Inv-loop μ-loop Inv-loop2 μ-loop2
 returns-3 c =
     let l = c .before in
     let made = l .before .before .before in
-    scan-none _ _ (made .before .all .ensures) (made .minus .ensures) _ (λ m h. l .loop2 .inv .1 m (lt-of-lt-of-le h (c .loop2-test .left)))
+    scan-none _ _ (made .before .all .ensures .0) (made .minus .ensures) _ (λ m h. l .loop2 .inv .1 m (lt-of-lt-of-le h (c .loop2-test .left)))
 
 pub none-within-spec : {M : Type 1} → statement M
 none-within-spec =
