@@ -1,21 +1,35 @@
--- A cell as it is read: the row itself, or where it is unknown all values of the file's rows. Assumes nothing.
-use Prim.Native.Nat.{ℕ, zero}
-use mathlib.Core.Path.{_≡_, subst}
-use mathlib.Core.Bool.{Bool, true, false, cond}
+-- A cell as it is read: the row itself, or where it is unknown all values of the column. Assumes nothing.
+use Prim.Native.Nat.{ℕ, zero, _≤_}
+use mathlib.Core.Path.{_≡_, sym, ap, _∙_}
+use mathlib.Core.Logic.{_≢_}
+use mathlib.Core.Bool.{Bool, true, not, cond}
 use mathlib.Core.List.{List}
+use native.Mathlib.Decide.{ℕ-discrete}
 use lib.Dec.{eqb}
-use Rattle.sets.specs.declared.Row.{Row}
-use Rattle.sets.specs.Rows.{bits, Holds}
-use Rattle.files.specs.Rows.{unionTo}
-use Rattle.files.specs.Files.{countIn, rowIn, unionIn, cellIn}
+use borrow.Author.Tests.{eq-eqb, ne-eqb}
+use Rattle.sets.specs.Sets.{all, below, within}
+use Rattle.sets.proofs.Bools.{and-both, false-not}
+use Rattle.sets.proofs.ValuesBelow.{all-within}
+use Rattle.files.specs.Files.{valuesIn, rowIn, cellIn}
 
-either-holds : (b : Bool) (all row : Row) (m n : ℕ) → Holds all m → Holds row n → Holds (cond b all row) (cond b m n)
-either-holds true all row m n p q = p
-either-holds false all row m n p q = q
+module _ (file : List ℕ) (i : ℕ) where
+  abbrev pick : Bool → ℕ
+  pick unknown = cond unknown (all (valuesIn file)) (rowIn file i)
 
-pub cell-holds : (file : List ℕ) (t i : ℕ) (row all r : Row) → t ≡ countIn file → Holds row (rowIn file i) → Holds all (unionTo (rowIn file) t)
-    → r ≡ cond (eqb (bits row) zero) all row → Holds r (cellIn file i)
-unfolding cellIn
-cell-holds file t i row all r count p q e =
-    let whole = subst (λ (n : ℕ). Holds all (unionTo (rowIn file) n)) count q in
-    rw (e, p .0) (either-holds (eqb (rowIn file i) zero) all row (unionIn file) (rowIn file i) whole p)
+  pub unknown-cell : rowIn file i ≡ zero → cellIn file i ≡ all (valuesIn file)
+  unfolding cellIn
+  unknown-cell e = ap pick (eq-eqb (rowIn file i) zero e)
+
+  pub known-cell : rowIn file i ≢ zero → cellIn file i ≡ rowIn file i
+  unfolding cellIn
+  known-cell ne = ap pick (ne-eqb (rowIn file i) zero ne)
+
+  -- either way it is a row of the column, where the file's row has no value beyond it
+  pub cell-within : (d : ℕ) → d ≡ valuesIn file → 1 ≤ d → below d (rowIn file i) ≡ true → within d (cellIn file i) ≡ true
+  unfolding within
+  cell-within d values some low = elim (ℕ-discrete (rowIn file i) zero) [
+    | yes e ↦ ap (within d) (unknown-cell e ∙ ap all (sym values)) ∙ all-within d some
+    | no ne ↦
+        (let row = rowIn file i in
+        ap (within d) (known-cell ne) ∙ and-both (not (eqb row zero)) (below d row) (false-not (eqb row zero) (ne-eqb row zero ne)) low)
+  ]

@@ -3,20 +3,19 @@
 use Prim.Native.Nat.{ℕ, zero, _+_, _*_, _≤_, _<_}
 use mathlib.Core.Path.{_≡_, refl, ap}
 use mathlib.Core.Logic.{_≢_, inl, inr}
-use mathlib.Core.Bool.{false, not, _&&_, _||_}
+use mathlib.Core.Bool.{false, not, _||_}
 use mathlib.Core.List.{List}
 use native.Mathlib.Omega.{arith}
-use lib.Dec.{eqb, leb, ltb}
+use lib.Dec.{eqb, ltb}
 use lib.ListN.{length}
 use borrow.Author.Tests.{eqb-true, eqb-false, ltb-false, not-false, eq-eqb, ne-eqb, lt-ltb, le-ltb}
 use Rattle.sets.specs.Limits.{mostValues, mostRows}
 use Rattle.sets.specs.declared.Found.the-variants.{Nothing}
-use Rattle.sheet.specs.Upto.{allTo}
 use Rattle.refusals.specs.declared.Refusal.the-variants.{LongFile}
 use Rattle.refusals.specs.Cases.{found}
 use Rattle.refusals.proofs.Outcomes.{NoneApplies, Gives}
 use Rattle.refusals.proofs.TablesJudged.{or-no, not-found}
-use Rattle.files.specs.Files.{markIn, versionIn, valuesIn, countIn, rowIn}
+use Rattle.files.specs.Files.{markIn, versionIn, valuesIn, countIn}
 use Rattle.files.specs.FileCases.{frontCases, rowOver, rowCases, fileCases}
 
 module _ (file : List ℕ) where
@@ -36,7 +35,6 @@ module _ (file : List ℕ) where
     pub front : HeaderRight
     pub whole : length file ≡ 8 + 8 * countIn file
     pub none-over : rowOver file ≡ Nothing
-    pub some-known : (leb 1 (countIn file) && allTo (λ i. eqb (rowIn file i) zero) (countIn file)) ≡ false
 
   abbrev due : ℕ
   due = 8 + 8 * countIn file
@@ -45,7 +43,7 @@ module _ (file : List ℕ) where
 
   pub file-right : NoneApplies (fileCases file) → FileRight
   unfolding frontCases rowCases
-  file-right (header, (mark, (version, (column, (many, (cut, (long, (over, (unknown, _))))))))) =
+  file-right (header, (mark, (version, (column, (many, (cut, (long, (over, _)))))))) =
       let values = or-no (eqb (valuesIn file) zero) (ltb mostValues (valuesIn file)) column in
       let enough : due ≤ length file = ltb-false (length file) due cut in
       let no-more : length file ≤ due = ltb-false due (length file) long in
@@ -60,7 +58,6 @@ module _ (file : List ℕ) where
         };
         whole = omega arith;
         none-over = not-found (rowOver file) over;
-        some-known = unknown;
       }
 
   -- 20 to 24, one by one
@@ -84,7 +81,7 @@ module _ (file : List ℕ) where
       let front = header-none (right .front) in
       let enough : ltb (length file) due ≡ false = le-ltb (length file) due (omega (arith, right .whole)) in
       let no-more : ltb due (length file) ≡ false = le-ltb due (length file) (omega (arith, right .whole)) in
-      (front .0, (front .1, (front .2, (front .3, (front .4, (enough, (no-more, (ap found (right .none-over), (right .some-known, tt)))))))))
+      (front .0, (front .1, (front .2, (front .3, (front .4, (enough, (no-more, (ap found (right .none-over), tt))))))))
 
   pub long-gives : HeaderRight → due < length file → Gives (fileCases file) LongFile
   unfolding frontCases

@@ -1,26 +1,24 @@
 -- Reading what was written: a table that is saved is read back as itself, at once and row by row, from the bytes written. Assumes nothing.
-use Prim.Native.Nat.{ℕ, zero, suc, _+_, _*_, _^_, _≤_, _<_}
+use Prim.Native.Nat.{ℕ, zero, _+_, _*_, _^_, _≤_, _<_}
 use mathlib.Core.Path.{_≡_, refl, sym, ap, ap₂, _∙_, subst}
 use mathlib.Core.Logic.{_≢_}
-use mathlib.Core.Bool.{Bool, false, not, cond, _&&_}
-use mathlib.Core.List.{List, [], _∷_, _++_, append-assoc}
-use native.Mathlib.Nat.{not-suc-le-zero, le-of-suc-le-suc, le-trans}
+use mathlib.Core.Bool.{Bool, not, cond}
+use mathlib.Core.List.{List, _++_}
+use native.Mathlib.Nat.{le-trans}
 use native.Mathlib.Omega.{arith}
-use lib.Dec.{eqb, leb}
-use lib.ListN.{length, getD, take, drop, length-append, List·getD-append}
+use lib.Dec.{eqb}
+use lib.ListN.{length, getD, take, drop, List·getD-append}
 use lib.Pow.{pow-mono}
 use lib.Seq.{ext-getD, take-at}
-use borrow.Author.Tests.{leb-true, eqb-true, eqb-false, not-true, ne-eqb, le-ltb}
+use borrow.Author.Tests.{eqb-false, not-true, le-ltb}
 use Rattle.sets.specs.declared.Found.the-variants.{Nothing}
 use Rattle.sets.specs.Limits.{mostRows}
 use Rattle.sets.specs.Sets.{below, within}
 use Rattle.sets.specs.Rows.{rowWords, width, rowsOf, inWords, asRow}
-use Rattle.sets.proofs.Bools.{and-left, and-right, is-false}
+use Rattle.sets.proofs.Bools.{and-left, and-right}
 use Rattle.sets.proofs.ValuesBelow.{within-less}
 use Rattle.sets.proofs.BadRows.{AllWithin, bad-row-none}
 use Rattle.sets.proofs.LentRows.{rows-append, rows-drop, words-length, Narrow, narrow-each, rows-words}
-use Rattle.sheet.specs.Upto.{allTo}
-use Rattle.sheet.proofs.UptoLaws.{all-at}
 use Rattle.refusals.specs.declared.Refusal.the-variants.{FewPlaces}
 use Rattle.refusals.proofs.Outcomes.{stands}
 use Rattle.refusals.proofs.TablesJudged.{TableRight}
@@ -29,14 +27,15 @@ use Rattle.files.specs.declared.Lesson.the-variants as lesson
 use Rattle.files.specs.declared.Saved.the-variants.{Length, Refused}
 use Rattle.files.specs.declared.NextRow.the-variants.{Cell, NoMore}
 use Rattle.files.specs.Bytes.{big, inBytes}
-use Rattle.files.specs.Files.{markIn, versionIn, valuesIn, countIn, rowIn, unionIn, cellIn, cellsIn}
+use Rattle.files.specs.Files.{markIn, versionIn, valuesIn, countIn, rowIn, cellIn, cellsIn}
 use Rattle.files.specs.FileCases.{rowOver, fileCases}
 use Rattle.files.specs.Reading.{judged, readAnswer, filled}
 use Rattle.files.specs.RowByRow.{handedOut}
 use Rattle.files.specs.Writing.{header, rowBytes, fileOf, writeAnswer, bufferAfter}
-use Rattle.files.proofs.ByteLaws.{cap, bytes-length, big-again}
-use Rattle.files.proofs.TableBytes.{file-length}
+use Rattle.files.proofs.ByteLaws.{cap, big-again}
+use Rattle.files.proofs.TableBytes.{file-length, row-part}
 use Rattle.files.proofs.RowLaws.{length-list, list-at, lowest-none}
+use Rattle.files.proofs.CellLaws.{known-cell}
 use Rattle.files.proofs.FilesJudged.{FileRight, right-none}
 use Rattle.files.proofs.ReadFiles.{then-places}
 use Rattle.files.proofs.TablesSaved.{saved-right}
@@ -49,23 +48,6 @@ pub record ReadAs (d : ℕ) (table file : List ℕ) : Type 0 where
       → rowsOf (filled file list (Read d (length table))) ≡ table ++ drop (length table) (rowsOf list)
   pub hands-out : (i : ℕ) → i < length table → handedOut file i ≡ Cell (asRow (getD table i 0))
   pub then-none : (k : ℕ) → handedOut file (k + length table) ≡ NoMore
-
--- ---- the bytes of a table
-
--- each row is read again, whatever stands before the rows
-row-again : (table before : List ℕ) (i : ℕ) → i < length table → getD table i 0 < cap 8
-    → big (before ++ rowBytes table) (length before + 8 * i) 8 ≡ getD table i 0
-unfolding rowBytes
-row-again [] before i h small = absurd (not-suc-le-zero h)
-row-again (r ∷ rows) before zero h small =
-    let first : length before + 8 * zero ≡ length before = omega arith in
-    ap₂ (λ (l : List ℕ) (k : ℕ). big l k 8) (sym (append-assoc before (inBytes 8 r) (rowBytes rows))) first
-    ∙ big-again 8 r before (rowBytes rows) small
-row-again (r ∷ rows) before (suc i) h small =
-    let front = before ++ inBytes 8 r in
-    let later : length before + 8 * suc i ≡ length front + 8 * i = omega (arith, length-append before (inBytes 8 r), bytes-length 8 r) in
-    ap₂ (λ (l : List ℕ) (k : ℕ). big l k 8) (sym (append-assoc before (inBytes 8 r) (rowBytes rows))) later
-    ∙ row-again rows front i (le-of-suc-le-suc h) small
 
 -- ---- the rows of a table that is right
 
@@ -106,8 +88,11 @@ module _ (d : ℕ) (table : List ℕ) (right : TableRight mostRows d table) wher
   count = big-again 2 t (inBytes 3 0x505654 ++ inBytes 2 1 ++ inBytes 1 d) (rowBytes table) (omega (arith, right .small))
 
   row : (i : ℕ) → i < t → rowIn file i ≡ getD table i 0
-  unfolding fileOf header inBytes cap
-  row i h = row-again table (header d t) i h (row-less i h)
+  unfolding cap
+  row i h =
+      let part = row-part d table i h in
+      ap₂ (λ (l : List ℕ) (k : ℕ). big l k 8) (part .parts) (sym (part .long))
+      ∙ big-again 8 (getD table i 0) (part .before) (part .behind) (row-less i h)
 
   row-not : (i : ℕ) → i < t → rowIn file i ≢ zero
   unfolding within
@@ -117,13 +102,12 @@ module _ (d : ℕ) (table : List ℕ) (right : TableRight mostRows d table) wher
 
   -- a row is never zero, so each cell is its row
   cells : cellsIn file ≡ table
-  unfolding cellIn
   cells =
       let long : length (cellsIn file) ≡ t = length-list (cellIn file) (countIn file) ∙ count in
       ext-getD zero (cellsIn file) table long (λ i h.
       let here : i < t = omega (arith, h, long) in
       list-at (cellIn file) (countIn file) i (omega (arith, here, count))
-      ∙ ap (λ (b : Bool). cond b (unionIn file) (rowIn file i)) (ne-eqb (rowIn file i) zero (row-not i here)) ∙ row i here)
+      ∙ known-cell file i (row-not i here) ∙ row i here)
 
   -- ---- it is read
 
@@ -133,16 +117,6 @@ module _ (d : ℕ) (table : List ℕ) (right : TableRight mostRows d table) wher
       let here : i < t = omega (arith, h, count) in
       let r = getD table i 0 in
       ap not ((λ j. below (values j) (row i here j)) ∙ and-right (not (eqb r zero)) (below d r) (all-within i here)))
-
-  -- with a row, not all are zero
-  abbrev none-known : Bool
-  none-known = allTo (λ i. eqb (rowIn file i) zero) (countIn file)
-
-  some-known : (leb 1 (countIn file) && none-known) ≡ false
-  some-known = is-false (leb 1 (countIn file) && none-known) (λ e.
-      let some : 1 ≤ countIn file = leb-true 1 (countIn file) (and-left (leb 1 (countIn file)) none-known e) in
-      let first = all-at (λ i. eqb (rowIn file i) zero) (countIn file) (and-right (leb 1 (countIn file)) none-known e) zero some in
-      row-not zero (omega (arith, some, count)) (eqb-true (rowIn file zero) zero first))
 
   facts : FileRight file
   facts =
@@ -159,7 +133,6 @@ module _ (d : ℕ) (table : List ℕ) (right : TableRight mostRows d table) wher
         };
         whole = omega (arith, long, count);
         none-over = none-over;
-        some-known = some-known;
       }
 
   read : judged file ≡ Read d t

@@ -42,15 +42,15 @@ module _ (file : List ℕ) (places : ℕ) where
   abbrev accepts : Lesson
   accepts = Read (valuesIn file) (countIn file)
 
-  -- '29 .. tried after 25 and before 26'
+  -- '29 .. tried after 25 and before 26'; '27 is withdrawn'
   pub tried-in-order : map (λ (c : Case). number (c .refusal)) (readCases file places)
-      ≡ 20 ∷ 21 ∷ 22 ∷ 23 ∷ 24 ∷ 25 ∷ 29 ∷ 26 ∷ 27 ∷ 28 ∷ []
+      ≡ 20 ∷ 21 ∷ 22 ∷ 23 ∷ 24 ∷ 25 ∷ 29 ∷ 26 ∷ 28 ∷ []
   unfolding frontCases rowCases
   tried-in-order = refl
 
   numbered : Numbered (readCases file places)
   unfolding frontCases rowCases
-  numbered = record { no-zero = refl; once = (refl, (refl, (refl, (refl, (refl, (refl, (refl, (refl, (refl, (refl, tt)))))))))) }
+  numbered = record { no-zero = refl; once = (refl, (refl, (refl, (refl, (refl, (refl, (refl, (refl, (refl, tt))))))))) }
 
   -- a refusal is given exactly when its case applies and none that is tried before it does
   pub read-exactly-when : (n : ℕ) → 0 < n → (numberOf (readAnswer file places) ≡ n) ↔ First (readCases file places) n

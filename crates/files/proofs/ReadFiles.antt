@@ -1,6 +1,6 @@
 -- What is known of a file that is judged: one that is read has its d and T, its rows and no more; and what is answered once the list is looked at.
 -- Assumes nothing.
-use Prim.Native.Nat.{ℕ, _+_, _*_}
+use Prim.Native.Nat.{ℕ, _+_, _*_, _≤_}
 use mathlib.Core.Path.{_≡_, sym, ap, _∙_}
 use mathlib.Core.Logic.{_≢_}
 use mathlib.Core.Bool.{cond}
@@ -8,6 +8,7 @@ use mathlib.Core.List.{List}
 use native.Mathlib.Omega.{arith}
 use lib.Dec.{ltb}
 use lib.ListN.{length}
+use Rattle.sets.specs.Rows.{width}
 use Rattle.refusals.specs.declared.Refusal.{Refusal}
 use Rattle.refusals.specs.declared.Refusal.the-variants.{FewPlaces}
 use Rattle.refusals.specs.Cases.{decided}
@@ -35,9 +36,10 @@ module _ (file : List ℕ) where
   unfolding judged
   read-none d t e = not-refused Refused accepts (Read d t) (apart d t) (fileCases file) e
 
-  -- its d and T, its rows and no more, and all else that is asked of it
+  -- its d, which a row can hold, and T, its rows and no more, and all else that is asked of it
   pub record Readable (d t : ℕ) : Type 0 where
     pub values : d ≡ valuesIn file
+    pub narrow : d ≤ width
     pub count : t ≡ countIn file
     pub whole : length file ≡ 8 + 8 * t
     pub right : FileRight file
@@ -47,7 +49,14 @@ module _ (file : List ℕ) where
       let none = read-none d t e in
       let right = file-right file (none .0) in
       let count : t ≡ countIn file = sym (ap countOf (none .1)) in
-      record { values = sym (ap valuesOf (none .1)); count = count; whole = omega (arith, right .whole, count); right = right }
+      let values : d ≡ valuesIn file = sym (ap valuesOf (none .1)) in
+      record {
+        values = values;
+        narrow = omega (arith, values, right .front .values);
+        count = count;
+        whole = omega (arith, right .whole, count);
+        right = right;
+      }
 
   module _ (places : ℕ) where
     -- the list is looked at where the file is read

@@ -1,25 +1,19 @@
--- The first n rows: the list of them, one more of them, when their values together are none, and what the lowest that passes a test is.
--- Assumes nothing.
+-- The first n rows: the list of them, and what the lowest that passes a test is. Assumes nothing.
 use Prim.Native.Nat.{ℕ, zero, suc, _+_, _<_}
-use mathlib.Core.Path.{_≡_, refl, ap, _∙_}
+use mathlib.Core.Path.{_≡_, refl, _∙_}
 use mathlib.Core.Logic.{inl, inr}
-use mathlib.Core.Bool.{Bool, true, false, _&&_}
+use mathlib.Core.Bool.{Bool, true, false}
 use mathlib.Core.List.{[], _∷_, _++_}
 use native.Mathlib.Nat.{not-suc-le-zero}
 use native.Mathlib.Decide.{ℕ-discrete}
 use native.Mathlib.Omega.{arith}
 use native.Mathlib.Numerals.{add-one}
-use lib.Bits.{bitOr, or-add-and, and-le-l, and-le-r, or-zero-r}
-use lib.Dec.{eqb}
 use lib.ListN.{length, getD, length-append, List·getD-append}
 use lib.Seq.{getD-at}
-use borrow.Author.Tests.{eq-eqb, eqb-true}
 use Rattle.sets.specs.declared.Found.{Found}
 use Rattle.sets.specs.declared.Found.the-variants.{At, Nothing}
-use Rattle.sets.proofs.Bools.{and-left, and-right, and-both, bool-ext}
-use Rattle.sheet.specs.Upto.{allTo}
 use Rattle.sheet.proofs.UptoLaws.{top-or-below}
-use Rattle.files.specs.Rows.{listTo, unionTo, orAt, lowestTo}
+use Rattle.files.specs.Rows.{listTo, orAt, lowestTo}
 
 -- ---- a list of the first n, at a place
 
@@ -37,28 +31,6 @@ list-at f (suc n) i h = elim (ℕ-discrete i n) [
   | yes e ↦ rw e (getD-at (listTo f n) (f n) [] zero n (length-list f n))
   | no ne ↦ List·getD-append (listTo f n) (f n ∷ []) zero i (omega (arith, length-list f n)) ∙ list-at f n i (omega arith)
 ]
-
--- ---- their values together
-
-pub union-next : (f : ℕ → ℕ) (n : ℕ) → unionTo f (n + 1) ≡ bitOr (unionTo f n) (f n)
-unfolding unionTo
-union-next f n = rw (add-one n) refl
-
--- a union is empty where both parts are
-union-empty : (a b : ℕ) → eqb (bitOr a b) zero ≡ (eqb a zero && eqb b zero)
-union-empty a b = bool-ext (eqb (bitOr a b) zero) (eqb a zero && eqb b zero)
-    (λ e. let none : bitOr a b ≡ zero = eqb-true (bitOr a b) zero e in
-    let sum = or-add-and a b in
-    and-both (eqb a zero) (eqb b zero) (eq-eqb a zero (omega (arith, sum, and-le-r a b))) (eq-eqb b zero (omega (arith, sum, and-le-l a b))))
-    (λ e. let a-none : a ≡ zero = eqb-true a zero (and-left (eqb a zero) (eqb b zero) e) in
-    let b-none : b ≡ zero = eqb-true b zero (and-right (eqb a zero) (eqb b zero) e) in
-    eq-eqb (bitOr a b) zero (ap (bitOr a) b-none ∙ or-zero-r a ∙ a-none))
-
--- so the code may look at the union where the request says 'all rows are zero'
-pub union-of-none : (f : ℕ → ℕ) (n : ℕ) → eqb (unionTo f n) zero ≡ allTo (λ i. eqb (f i) zero) n
-unfolding unionTo allTo
-union-of-none f zero = refl
-union-of-none f (suc n) = union-empty (unionTo f n) (f n) ∙ ap (λ (b : Bool). b && eqb (f n) zero) (union-of-none f n)
 
 -- ---- the lowest that passes
 

@@ -1,16 +1,14 @@
--- The refusals of a lesson file (the request, 'Lesson files', and wish 2, 'Two lessons glued into one file'), in the order in which they are tried:
--- the lists below are that order.
+-- The refusals of a lesson file (the request, 'Lesson files', with wishes 2 and 3), in the order in which they are tried: the lists below are it.
 use Prim.Native.Nat.{ℕ, zero, _+_, _*_}
-use mathlib.Core.Bool.{not, _&&_, _||_}
+use mathlib.Core.Bool.{not, _||_}
 use mathlib.Core.List.{List, [], _∷_, _++_}
-use lib.Dec.{eqb, leb, ltb}
+use lib.Dec.{eqb, ltb}
 use lib.ListN.{length}
 use Rattle.sets.specs.Limits.{mostValues, mostRows}
 use Rattle.sets.specs.declared.Found.{Found}
 use Rattle.sets.specs.Sets.{below}
-use Rattle.sheet.specs.Upto.{allTo}
 use Rattle.refusals.specs.declared.Refusal.the-variants.{ShortFile, WrongMark, WrongVersion, BadValues, ManyRows, CutShort, LongFile}
-use Rattle.refusals.specs.declared.Refusal.the-variants.{RowOver, AllUnknown, FewPlaces}
+use Rattle.refusals.specs.declared.Refusal.the-variants.{RowOver, FewPlaces}
 use Rattle.refusals.specs.Cases.{Case, _gives_, _names_}
 use Rattle.files.specs.Rows.{lowestTo}
 use Rattle.files.specs.Files.{markIn, versionIn, valuesIn, countIn, rowIn}
@@ -33,9 +31,9 @@ module _ (file : List ℕ) where
   abbrev pub rowOver : Found
   rowOver = lowestTo (λ i. not (below (valuesIn file) (rowIn file i))) (countIn file)
 
-  -- '26 a row has a value d or above (the lowest such row is returned); 27 T is at least 1 and all rows are zero'
+  -- '26 a row has a value d or above (the lowest such row is returned)'; wish 3: '27 is withdrawn'
   unfoldable pub rowCases : List Case
-  rowCases = (rowOver names RowOver) ∷ ((leb 1 (countIn file) && allTo (λ i. eqb (rowIn file i) zero) (countIn file)) gives AllUnknown) ∷ []
+  rowCases = (rowOver names RowOver) ∷ []
 
   -- what the file alone decides
   abbrev pub fileCases : List Case

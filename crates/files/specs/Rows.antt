@@ -1,8 +1,7 @@
--- What can be said of the first n rows of a file: the list of them, their values together, and the lowest that passes a test.
+-- What can be said of the first n rows of a file: the list of them, and the lowest that passes a test.
 use Prim.Native.Nat.{ℕ, zero, suc}
 use mathlib.Core.Bool.{Bool, cond}
 use mathlib.Core.List.{List, [], _∷_, _++_}
-use lib.Bits.{bitOr}
 use Rattle.sets.specs.declared.Found.{Found}
 use Rattle.sets.specs.declared.Found.the-variants.{At, Nothing}
 
@@ -10,11 +9,6 @@ use Rattle.sets.specs.declared.Found.the-variants.{At, Nothing}
 unfoldable pub listTo : (ℕ → ℕ) → ℕ → List ℕ
 listTo f zero = []
 listTo f (suc n) = listTo f n ++ (f n ∷ [])
-
--- the values of the first n of f
-unfoldable pub unionTo : (ℕ → ℕ) → ℕ → ℕ
-unionTo f zero = zero
-unionTo f (suc n) = bitOr (unionTo f n) (f n)
 
 -- the lowest number below n that passes
 abbrev pub orAt : Found → Bool → ℕ → Found

@@ -1,4 +1,4 @@
-// Refusals 20 to 27, and 29: what the file alone decides.
+// Refusals 20 to 26, and 29: what the file alone decides.
 ghost use mathlib.Core.Path.{_≡_};
 ghost use Prim.Native.Nat.{_≤_, _+_, _*_};
 ghost use lib.ListN.{length};
@@ -13,7 +13,7 @@ use refusals::Refusal;
 use sets::Found;
 use sheet::Sheet;
 
-// The rows of a file that has them all: refusals 26 and 27.
+// The rows of a file that has them all: refusal 26.
 fn judge_rows(file: &[u8], d: usize, t: usize) -> Lesson
     requires { ⌜ (d ≡ valuesIn (now file)) × (t ≡ countIn (now file)) × (8 + 8 * t ≤ length (now file)) ⌝ }
     ensures { λ r. ⌜ r ≡ decided Refused (rowCases (now (file .entry))) (Read d t) ⌝ }
@@ -21,15 +21,7 @@ fn judge_rows(file: &[u8], d: usize, t: usize) -> Lesson
     let over = numbers::over(file, d, t);
     match over {
         Found::At(i) => Lesson::Refused(Refusal::RowOver(i)),
-        Found::Nothing => {
-            if t == 0 {
-                return Lesson::Read(d, t);
-            }
-            if sets::is_empty(numbers::union(file, t)) {
-                return Lesson::Refused(Refusal::AllUnknown);
-            }
-            Lesson::Read(d, t)
-        }
+        Found::Nothing => Lesson::Read(d, t),
     }
 }
 

@@ -1,12 +1,10 @@
 // Lesson files: a table out of bytes, all at once or row by row, and into bytes.
 ghost use mathlib.Core.Path.{_≡_};
-ghost use Prim.Native.Nat.{_≤_, _<_, _+_, _*_};
-ghost use mathlib.Core.Bool.{cond};
+ghost use Prim.Native.Nat.{_≤_, _+_, _*_};
 ghost use mathlib.Core.List.{_++_};
-ghost use lib.Dec.{eqb};
 ghost use lib.ListN.{length, drop};
-ghost use Rattle.sets.specs.Rows.{rowWords, bits, Holds, rowsOf, inWords};
-ghost use Rattle.files.specs.Files.{countIn, cellIn, cellsIn};
+ghost use Rattle.sets.specs.Rows.{rowWords, width, Holds, rowsOf, inWords};
+ghost use Rattle.files.specs.Files.{valuesIn, countIn, cellIn, cellsIn};
 ghost use Rattle.files.specs.Reading.{readAnswer, filled};
 ghost use Rattle.files.specs.RowByRow.{stepAt};
 ghost use Rattle.files.specs.Writing.{writeAnswer, bufferAfter};
@@ -16,7 +14,7 @@ use sets::Row;
 use sheet::Sheet;
 
 mod numbers; // numbers.rt: numbers in bytes, and the rows of a file
-mod judge; // judge.rt: refusals 20 to 27, and 29
+mod judge; // judge.rt: refusals 20 to 26, and 29
 mod reader; // reader.rt: row by row
 mod writer; // writer.rt: a table's bytes, put into a buffer
 
@@ -47,31 +45,28 @@ pub struct Step {
     pub next: usize,
 }
 
-// A row as it is read: an unknown one stands for all values of the file's rows.
-fn known(row: Row, all: Row) -> Row
-    ensures { λ r. ⌜ r ≡ cond (eqb (bits row) 0) all row ⌝ }
-{
-    if sets::is_empty(row) { all } else { row }
-}
-
-// The cell of row i.
-fn cell(file: &[u8], t: usize, i: usize) -> Row
-    requires { ⌜ (t ≡ countIn (now file)) × (i < t) × (8 + 8 * t ≤ length (now file)) ⌝ }
+// The cell of row i: an unknown one stands for all values of the column.
+fn cell(file: &[u8], d: usize, i: usize) -> Row
+    requires { ⌜ (d ≡ valuesIn (now file)) × (d ≤ width) × (16 + 8 * i ≤ length (now file)) ⌝ }
     ensures { λ r. ⌜ Holds r (cellIn (now (file .entry)) i) ⌝ }
 {
-    known(numbers::row(file, i), numbers::union(file, t))
+    let row = numbers::row(file, i);
+    if sets::is_empty(row) {
+        sets::all(d)
+    } else {
+        row
+    }
 }
 
 // All cells go to the front of the list, which keeps its later places.
-fn fill(file: &[u8], t: usize, rows: &mut [u64])
-    requires { ⌜ (t ≡ countIn (now file)) × (8 + 8 * t ≤ length (now file)) × (t ≤ length (rowsOf (now rows))) ⌝ }
+fn fill(file: &[u8], d: usize, t: usize, rows: &mut [u64])
+    requires { ⌜ (d ≡ valuesIn (now file)) × (d ≤ width) × (t ≡ countIn (now file)) × (8 + 8 * t ≤ length (now file))
+        × (t ≤ length (rowsOf (now rows))) ⌝ }
     ensures { λ _. ⌜ now (rows .exit) ≡ inWords (cellsIn (now (file .entry))) ++ drop (t * rowWords) (now (rows .entry)) ⌝ }
 {
-    let all = numbers::union(file, t);
     let mut next: usize = 0;
     while next < t {
-        let row = numbers::row(file, next);
-        sets::put_row(rows, next, known(row, all));
+        sets::put_row(rows, next, cell(file, d, next));
         next += 1;
     }
 }
@@ -87,7 +82,7 @@ pub fn read(file: &[u8], rows: &mut [u64]) -> Lesson
             if sets::row_count(rows) < t {
                 return Lesson::Refused(Refusal::FewPlaces);
             }
-            fill(file, t, rows);
+            fill(file, d, t, rows);
             Lesson::Read(d, t)
         }
         Lesson::Refused(refusal) => Lesson::Refused(refusal),
@@ -100,10 +95,10 @@ pub fn step_at(file: &[u8], at: usize) -> Step
 {
     let lesson = judge::judge(file);
     match lesson {
-        Lesson::Read(_, t) => {
+        Lesson::Read(d, t) => {
             if at < t {
                 return Step {
-                    row: NextRow::Cell(cell(file, t, at)),
+                    row: NextRow::Cell(cell(file, d, at)),
                     next: at + 1,
                 };
             }

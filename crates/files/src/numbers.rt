@@ -1,12 +1,12 @@
 // Numbers in bytes, and the rows of a file.
 ghost use mathlib.Core.Path.{_≡_};
-ghost use Prim.Native.Nat.{_≤_, _<_, _+_, _*_};
+ghost use Prim.Native.Nat.{_≤_, _+_, _*_};
 ghost use mathlib.Core.Bool.{not};
 ghost use lib.ListN.{length};
 ghost use Rattle.sets.specs.Sets.{below};
 ghost use Rattle.sets.specs.Rows.{Holds};
 ghost use Rattle.files.specs.Bytes.{big};
-ghost use Rattle.files.specs.Rows.{unionTo, lowestTo};
+ghost use Rattle.files.specs.Rows.{lowestTo};
 ghost use Rattle.files.specs.Files.{rowIn};
 use sets::Found;
 use sets::Row;
@@ -31,20 +31,6 @@ pub fn row(file: &[u8], i: usize) -> Row
     ensures { λ r. ⌜ Holds r (rowIn (now (file .entry)) i) ⌝ }
 {
     sets::of_word(big(file, 8 + 8 * i, 8))
-}
-
-// The values of the first n rows together.
-pub fn union(file: &[u8], n: usize) -> Row
-    requires { ⌜ 8 + 8 * n ≤ length (now file) ⌝ }
-    ensures { λ r. ⌜ Holds r (unionTo (rowIn (now (file .entry))) n) ⌝ }
-{
-    let mut all = sets::empty();
-    let mut next: usize = 0;
-    while next < n {
-        all = sets::either(all, row(file, next));
-        next += 1;
-    }
-    all
 }
 
 // The lowest of the first n rows that has a value d or above.

@@ -12,7 +12,7 @@ use Rattle.sets.proofs.BadRows.{LowestBad, bad-row-at}
 use Rattle.refusals.specs.declared.Refusal.{Refusal}
 use Rattle.refusals.specs.declared.Refusal.the-variants.{TooLarge, BadRow, Unsound, OtherTable, NoDesk, NoRow, HiddenAlready, BadSet, Full}
 use Rattle.refusals.specs.declared.Refusal.the-variants.{NoRoom, ShortList, LongView, BadDesks, ShortFile, WrongMark, WrongVersion, BadValues}
-use Rattle.refusals.specs.declared.Refusal.the-variants.{ManyRows, CutShort, RowOver, AllUnknown, FewPlaces, LongFile, ShortBuffer}
+use Rattle.refusals.specs.declared.Refusal.the-variants.{ManyRows, CutShort, RowOver, FewPlaces, LongFile, ShortBuffer}
 use Rattle.refusals.specs.Refusals.{number, row}
 use Rattle.refusals.specs.Cases.{Case, found, foundAt, decided, Rising}
 use Rattle.refusals.specs.TableCases.{badCase, tableCases}
@@ -43,7 +43,6 @@ row-stated BadValues a b = refl
 row-stated ManyRows a b = refl
 row-stated CutShort a b = refl
 row-stated (RowOver i) a b = absurd (b refl)
-row-stated AllUnknown a b = refl
 row-stated FewPlaces a b = refl
 row-stated LongFile a b = refl
 row-stated ShortBuffer a b = refl

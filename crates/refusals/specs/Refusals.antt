@@ -3,8 +3,9 @@ use Prim.Native.Nat.{ℕ, zero}
 use Rattle.refusals.specs.declared.Refusal.{Refusal}
 use Rattle.refusals.specs.declared.Refusal.the-variants.{TooLarge, BadRow, Unsound, OtherTable, NoDesk, NoRow, HiddenAlready, BadSet, Full}
 use Rattle.refusals.specs.declared.Refusal.the-variants.{NoRoom, ShortList, LongView, BadDesks, ShortFile, WrongMark, WrongVersion, BadValues}
-use Rattle.refusals.specs.declared.Refusal.the-variants.{ManyRows, CutShort, RowOver, AllUnknown, FewPlaces, LongFile, ShortBuffer}
+use Rattle.refusals.specs.declared.Refusal.the-variants.{ManyRows, CutShort, RowOver, FewPlaces, LongFile, ShortBuffer}
 
+-- (wish 3: '27 is withdrawn'; it is the number of none)
 abbrev pub number : Refusal → ℕ
 number TooLarge = 1
 number (BadRow i) = 2
@@ -26,7 +27,6 @@ number BadValues = 23
 number ManyRows = 24
 number CutShort = 25
 number (RowOver i) = 26
-number AllUnknown = 27
 number FewPlaces = 28
 number LongFile = 29
 number ShortBuffer = 30
@@ -53,7 +53,6 @@ row BadValues = zero
 row ManyRows = zero
 row CutShort = zero
 row (RowOver i) = i
-row AllUnknown = zero
 row FewPlaces = zero
 row LongFile = zero
 row ShortBuffer = zero

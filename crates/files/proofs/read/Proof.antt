@@ -29,7 +29,7 @@ fill-requires : tie.Need-fill-requires
 fill-requires c κs =
     let at = c .before .before in
     let R = readable _ _ _ (sym (at .before .before .before .before .before .judge .ensures) ∙ at .before .before .before .lesson .given .1) in
-    (R .count, omega (arith, R .whole), omega (arith, at .row-count .ensures, c .before .if1 .left))
+    (R .values, R .narrow, R .count, omega (arith, R .whole), omega (arith, at .row-count .ensures, c .before .if1 .left))
 
 enum-known-lesson-2 : tie.Need-enum-known-lesson-2
 enum-known-lesson-2 c = search needs

@@ -17,10 +17,10 @@ enum-known-lesson c = search needs
 cell-requires : tie.Need-cell-requires
 cell-requires c κs =
     let R = readable _ _ _ (sym (c .before .before .before .before .judge .ensures) ∙ c .before .before .lesson .given .1) in
-    (R .count, c .if1 .taken, omega (arith, R .whole))
+    (R .values, R .narrow, omega (arith, R .whole, c .if1 .taken))
 
-add-t9 : tie.Need-add-t9
-add-t9 c = search needs
+add-t10 : tie.Need-add-t10
+add-t10 c = search needs
 
 returns : tie.Need-returns
 unfolding stepAt
@@ -46,7 +46,7 @@ step-at-spec =
     judge-requires
     enum-known-lesson
     cell-requires
-    add-t9
+    add-t10
     returns
     enum-told
     returns-2

@@ -1,10 +1,20 @@
--- `judge_rows` meets its contract. Assumes nothing.
-use mathlib.Core.Path.{sym, _∙_}
-use Rattle.files.proofs.RowsJudged.{over, no-rows, unknown, known}
+-- `judge_rows` meets its contract: 26 by the lowest row that has a value d or above. Assumes nothing.
+use Prim.Native.Nat.{ℕ}
+use mathlib.Core.Path.{_≡_, refl, sym, _∙_}
+use mathlib.Core.Bool.{not}
+use mathlib.Core.List.{List}
 use borrow.Author.Needs.{needs}
-use borrow.Author.Tests.{eqb-true, eqb-false}
+use Rattle.sets.specs.Sets.{below}
+use Rattle.refusals.specs.Cases.{decided}
+use Rattle.files.specs.Rows.{lowestTo}
+use Rattle.files.specs.Files.{valuesIn, countIn, rowIn}
+use Rattle.files.specs.FileCases.{rowOver, rowCases}
 use Rattle.files.proofs.judge.judge_rows.Statement.{statement}
 use Rattle.files.proofs.judge.judge_rows.Tie as tie
+
+-- by the d and the T that the code has
+found-over : (file : List ℕ) (d t : ℕ) → d ≡ valuesIn file → t ≡ countIn file → rowOver file ≡ lowestTo (λ i. not (below d (rowIn file i))) t
+found-over file d t values count = sym (λ j. lowestTo (λ i. not (below (values j) (rowIn file i))) (count j))
 
 over-requires : tie.Need-over-requires
 over-requires c κs = search needs
@@ -16,51 +26,18 @@ enum-told : tie.Need-enum-told
 enum-told c = search needs
 
 returns : tie.Need-returns
+unfolding decided rowCases
 returns c =
     let e = c .before .before .before .before .before in
-    let none = sym (c .before .before .before .over .ensures) ∙ c .before .enum-told .given .1 in
-    sym (no-rows (e .args .file .now) (e .args .d) (e .args .t) (e .pre .0) (e .pre .1) _ none (c .if1 .taken))
-
-union-requires : tie.Need-union-requires
-union-requires c κs = search needs
-
-is-empty-requires : tie.Need-is-empty-requires
-is-empty-requires c κs = search needs
+    let found = sym (c .before .before .before .over .ensures) ∙ c .before .over2 .given .1 in
+    rw (found-over (e .args .file .now) (e .args .d) (e .args .t) (e .pre .0) (e .pre .1) ∙ found) refl
 
 returns-2 : tie.Need-returns-2
+unfolding decided rowCases
 returns-2 c =
-    let e = c .before .before .before .before .before .before .before .before in
-    let none = sym (c .before .before .before .before .before .before .over .ensures) ∙ c .before .before .before .before .enum-told .given .1 in
-    let some = c .before .before .before .if1 .left in
-    let all = c .before .before .union .ensures .0 in
-    sym (unknown (e .args .file .now) (e .args .d) (e .args .t) (e .pre .0) (e .pre .1) _ none some
-    (sym all ∙ eqb-true _ _ (sym (c .before .is-empty .ensures) ∙ c .if2 .taken)))
-
-returns-3 : tie.Need-returns-3
-returns-3 c =
-    let e = c .before .before .before .before .before in
-    let found = sym (c .before .before .before .over .ensures) ∙ c .before .over2 .given .1 in
-    sym (over (e .args .file .now) (e .args .d) (e .args .t) (e .pre .0) (e .pre .1) _ _ found)
-
-returns-4 : tie.Need-returns-4
-returns-4 c =
-    let e = c .before .before .before .before .before .before .before .before in
-    let none = sym (c .before .before .before .before .before .before .over .ensures) ∙ c .before .before .before .before .enum-told .given .1 in
-    let some = c .before .before .before .if1 .left in
-    let all = c .before .before .union .ensures .0 in
-    sym (known (e .args .file .now) (e .args .d) (e .args .t) (e .pre .0) (e .pre .1) _ none some
-    (λ z. eqb-false _ _ (sym (c .before .is-empty .ensures) ∙ c .if2 .left) (all ∙ z)))
+    let e = c .before .before .before .before in
+    let none = sym (c .before .before .over .ensures) ∙ c .enum-told .given .1 in
+    rw (found-over (e .args .file .now) (e .args .d) (e .args .t) (e .pre .0) (e .pre .1) ∙ none) refl
 
 pub judge-rows-spec : {M : Type 1} → statement M
-judge-rows-spec =
-    tie.close
-    (tie.spec
-    over-requires
-    enum-known-over
-    enum-told
-    returns
-    union-requires
-    is-empty-requires
-    returns-2
-    returns-3
-    returns-4)
+judge-rows-spec = tie.close (tie.spec over-requires enum-known-over enum-told returns returns-2)
