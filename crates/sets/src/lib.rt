@@ -65,7 +65,7 @@ pub fn both(a: Row, b: Row) -> Row
 
 // The values that either has.
 pub fn either(a: Row, b: Row) -> Row
-    ensures { λ r. ⌜ Holds r (bitOr (bits a) (bits b)) ⌝ }
+    ensures { λ r. ⌜ bits r ≡ bitOr (bits a) (bits b) ⌝ }
 {
     Row { low: a.low | b.low }
 }

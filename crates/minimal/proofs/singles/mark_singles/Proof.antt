@@ -73,7 +73,7 @@ loop-again c =
     let same = read .row-at .ensures .0 in
     let value = one .is-single .ensures .one (met .before .if1 .taken) in
     let apart = meets-no (bits (l .singles)) same (met .meets .ensures) (not-true _ (c .before .if2 .taken)) in
-    let more = c .either .ensures .0 ∙ ap (bitOr (bits (l .singles))) same in (
+    let more = c .either .ensures ∙ ap (bitOr (bits (l .singles))) same in (
       omega arith,
       subst (Passed rows (set (l .keep) (l .next) true) (l .next + 1)) (sym more)
           (pass-new (l .inv .1) (inside (read .before)) (value .0) (sym same ∙ value .1) (e .pre .2) apart),

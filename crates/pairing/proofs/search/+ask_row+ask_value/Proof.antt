@@ -250,7 +250,7 @@ module _ (t : ℕ) where
 
   ask-value-loop-holds : ask-value-lts.Need-loop-holds value-claims (ask-value-at t) ask-value.Post ask-value-Inv-loop ask-value-μ-loop
   ask-value-loop-holds c =
-      rw (c .either .ensures .0, c .before .row-at .ensures .0) (turn-start (c .before .before .before .before .before .pre .1 .index))
+      rw (c .either .ensures, c .before .row-at .ensures .0) (turn-start (c .before .before .before .before .before .pre .1 .index))
 
   ask-value-row-at-requires-2 : ask-value-lts.Need-row-at-requires-2 value-claims (ask-value-at t) ask-value.Post ask-value-Inv-loop ask-value-μ-loop
   ask-value-row-at-requires-2 c κs = asked-there _ (c .row-at-arg2 .given .0)
