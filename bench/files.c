@@ -24,6 +24,16 @@ static bool has_over(uint64_t row, size_t d)
     return d < 64 && row >> d != 0;
 }
 
+static uint64_t all_values(size_t d)
+{
+    return d < 64 ? (UINT64_C(1) << d) - 1 : UINT64_MAX;
+}
+
+static void put_row(uint8_t *file, size_t i, uint64_t row)
+{
+    for (size_t k = 0; k < 8; k++) file[8 + 8 * i + k] = (uint8_t)(row >> (56 - 8 * k));
+}
+
 static foliokettle_told peer_write(size_t d, const uint64_t *table, size_t rows, uint8_t *buffer, size_t room)
 {
     if (d == 0 || d > FOLIOKETTLE_VALUES || rows > FOLIOKETTLE_ROWS) return refused(FOLIOKETTLE_TOO_LARGE, 0);
@@ -32,8 +42,7 @@ static foliokettle_told peer_write(size_t d, const uint64_t *table, size_t rows,
     if (room < 8 + 8 * rows) return refused(FOLIOKETTLE_SHORT_BUFFER, 0);
     const uint8_t header[8] = {'P', 'V', 'T', 0, 1, (uint8_t)d, (uint8_t)(rows >> 8), (uint8_t)rows};
     memcpy(buffer, header, sizeof header);
-    for (size_t i = 0; i < rows; i++)
-        for (size_t k = 0; k < 8; k++) buffer[8 + 8 * i + k] = (uint8_t)(table[i] >> (56 - 8 * k));
+    for (size_t i = 0; i < rows; i++) put_row(buffer, i, table[i]);
     return (foliokettle_told){.first = 8 + 8 * rows};
 }
 
@@ -54,14 +63,10 @@ static foliokettle_told peer_read(const uint8_t *file, size_t length, uint64_t *
     if (count > FOLIOKETTLE_ROWS) return refused(FOLIOKETTLE_MANY_ROWS, 0);
     if (length < 8 + 8 * count) return refused(FOLIOKETTLE_CUT_SHORT, 0);
     if (length > 8 + 8 * count) return refused(FOLIOKETTLE_LONG_FILE, 0);
-    uint64_t all = 0;
-    for (size_t i = 0; i < count; i++) {
+    for (size_t i = 0; i < count; i++)
         if (has_over(row_in(file, i), d)) return refused(FOLIOKETTLE_ROW_OVER, i);
-        all |= row_in(file, i);
-    }
-    if (count > 0 && all == 0) return refused(FOLIOKETTLE_ALL_UNKNOWN, 0);
     if (places < count) return refused(FOLIOKETTLE_FEW_PLACES, 0);
-    for (size_t i = 0; i < count; i++) rows[i] = row_in(file, i) != 0 ? row_in(file, i) : all;
+    for (size_t i = 0; i < count; i++) rows[i] = row_in(file, i) != 0 ? row_in(file, i) : all_values(d);
     return (foliokettle_told){.first = d, .second = count};
 }
 
@@ -97,9 +102,8 @@ static void draw_table(table *t)
 {
     t->d = one_in(10) ? draw_below(70) : 1 + draw_below(FOLIOKETTLE_VALUES);
     t->rows = one_in(16) ? FOLIOKETTLE_ROWS - 2 + draw_below(5) : draw_below(8);
-    uint64_t all = t->d < 64 ? (UINT64_C(1) << t->d) - 1 : UINT64_MAX;
     for (size_t i = 0; i < t->rows; i++) {
-        t->cells[i] = draw() & (one_in(2) ? draw() : UINT64_MAX) & all;
+        t->cells[i] = draw() & (one_in(2) ? draw() : UINT64_MAX) & all_values(t->d);
         if (t->cells[i] == 0) t->cells[i] = 1;
     }
     if (t->rows > 0 && one_in(8)) t->cells[draw_below(t->rows)] = one_in(2) ? 0 : draw();
@@ -119,7 +123,7 @@ static size_t spoil(uint8_t *file, size_t length)
 
 /* ---- both sides must agree */
 
-static size_t accepted, same;
+static size_t same, filled;
 
 static void fail(const char *what)
 {
@@ -151,23 +155,34 @@ static foliokettle_told read_both(const uint8_t *file, size_t length, table *t, 
     return told;
 }
 
-static bool has_unknown(const uint8_t *file, size_t rows)
+/* All values go where a row of zeros stands; whether one does. */
+static bool fill_unknown(uint8_t *file, const table *t)
 {
-    for (size_t i = 0; i < rows; i++)
-        if (row_in(file, i) == 0) return true;
-    return false;
+    bool unknown = false;
+    for (size_t i = 0; i < t->rows; i++)
+        if (row_in(file, i) == 0) {
+            put_row(file, i, all_values(t->d));
+            unknown = true;
+        }
+    return unknown;
 }
 
-/* A file that is read is written again: as the same bytes, where it has no unknown cell. */
+/* A file that is read is written again: as the same bytes, but that all values stand where a cell was unknown. What was
+   written is read as the same rows. */
 static void again(const uint8_t *file, size_t length, const table *t)
 {
-    static uint8_t buffer[ROOM];
+    static uint8_t buffer[ROOM], wanted[ROOM];
+    static table back;
     foliokettle_told told = write_both(t, buffer, sizeof buffer);
     if (told.refusal != 0) fail("a table that was read is not saved");
-    accepted++;
-    if (has_unknown(file, t->rows)) return;
-    if (length != told.first || memcmp(buffer, file, length) != 0) fail("a file is read and written as another");
-    same++;
+    memcpy(wanted, file, length);
+    if (fill_unknown(wanted, t)) filled++;
+    else same++;
+    if (length != told.first || memcmp(buffer, wanted, length) != 0) fail("a file is read and written as another");
+    back = *t;
+    memset(back.cells, 0, t->rows * sizeof *back.cells);
+    if (read_both(buffer, length, &back, FOLIOKETTLE_ROWS).refusal != 0 || memcmp(&back, t, sizeof back) != 0)
+        fail("what was written is read as another table");
 }
 
 static void round_trip(void)
@@ -221,7 +236,8 @@ int main(int argc, char **argv)
     int thousands = argc > 1 ? atoi(argv[1]) : THOUSANDS;
     for (int i = 0; i < 1000 * thousands; i++) round_trip();
     printf("files: %d thousand tables and files: answers, bytes and rows are the same; ", thousands);
-    printf("%zu files were read, and %zu written again as the same bytes\n", accepted, same);
+    printf("%zu files that were read were written again as the same bytes, ", same);
+    printf("and %zu with all values where a cell was unknown\n", filled);
     if (argc > 1) return 0;
     measure("ours", foliokettle_write, foliokettle_read);
     measure("plain C", peer_write, peer_read);

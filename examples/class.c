@@ -58,7 +58,6 @@ static void print_refusal(foliokettle_told told)
         [FOLIOKETTLE_MANY_ROWS] = "the file has too many rows",
         [FOLIOKETTLE_CUT_SHORT] = "the file is cut short",
         [FOLIOKETTLE_ROW_OVER] = "a row of the file has a value that the column has not",
-        [FOLIOKETTLE_ALL_UNKNOWN] = "all cells of the file are unknown",
         [FOLIOKETTLE_FEW_PLACES] = "the file has more rows than there are places",
         [FOLIOKETTLE_LONG_FILE] = "the file has something behind its rows",
         [FOLIOKETTLE_SHORT_BUFFER] = "the buffer is too short for the file",
@@ -309,6 +308,28 @@ static void spoil(const uint8_t *file, size_t length, size_t place, uint8_t byte
     read_rows(other, length, FOLIOKETTLE_ROWS);
 }
 
+static void print_cells(size_t rows)
+{
+    for (size_t row = 0; row < rows; row++) print_set(cells[row]);
+    printf("\n");
+}
+
+/* The file with unknown cells from a row on: each is read as the whole column, and saved so. Then the table is read
+   again. */
+static void forget(const server *s, const uint8_t *file, size_t length, size_t row)
+{
+    uint8_t other[FOLIOKETTLE_FILE];
+    memcpy(other, file, length);
+    memset(other + 8 + 8 * row, 0, length - 8 - 8 * row);
+    printf("unknown from row %zu on, ", row);
+    read_rows(other, length, s->rows);
+    print_cells(s->rows);
+    write_file(s, other, length);
+    read_rows(other, length, s->rows);
+    print_cells(s->rows);
+    read_rows(file, length, s->rows);
+}
+
 /* A saved file, read again, gives back the table; and files and tables that are not taken. */
 static void files(server s)
 {
@@ -316,8 +337,9 @@ static void files(server s)
     size_t length = write_file(&s, file, sizeof file).first;
     memset(cells, 0, sizeof cells);
     read_rows(file, length, s.rows);
-    for (size_t row = 0; row < s.rows; row++) print_set(cells[row]);
-    printf("\n");
+    print_cells(s.rows);
+    forget(&s, file, length, 3);
+    forget(&s, file, length, 0);
     spoil(file, length, 2, 'U');
     spoil(file, length, 4, 2);
     spoil(file, length, 5, 0);
@@ -331,9 +353,6 @@ static void files(server s)
     spoil(file, 2 * length, 39, 1 << 4);
     read_rows(file, 7, s.rows);
     read_rows(file, length, s.rows - 1);
-    memset(file + 8, 0, length - 8);
-    read_rows(file, length, s.rows);
-    read_rows(file, 2 * length, s.rows);
     write_file(&s, file, length - 1);
     s.d = 2;
     write_file(&s, file, length);

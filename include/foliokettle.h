@@ -91,8 +91,7 @@ enum {
     FOLIOKETTLE_MANY_ROWS,       /* it says that it has over 256 rows */
     FOLIOKETTLE_CUT_SHORT,       /* it has fewer rows than it says */
     FOLIOKETTLE_ROW_OVER,        /* a row has a value d or above; the lowest such row is told */
-    FOLIOKETTLE_ALL_UNKNOWN,     /* it has rows, and all of them are unknown */
-    FOLIOKETTLE_FEW_PLACES,      /* there are fewer places than it has rows */
+    FOLIOKETTLE_FEW_PLACES = 28, /* there are fewer places than it has rows */
     FOLIOKETTLE_LONG_FILE,       /* it has bytes behind its last row; tried after FOLIOKETTLE_CUT_SHORT */
 
     FOLIOKETTLE_SHORT_BUFFER = 30 /* the buffer has fewer bytes than the table's file takes */
@@ -121,10 +120,10 @@ foliokettle_told foliokettle_alter(foliokettle_sheet *sheet, const uint64_t *tab
    `first` is the row, or with 11. */
 foliokettle_told foliokettle_distinct(size_t d, const uint64_t *view, size_t rows, size_t *list, size_t places);
 
-/* A lesson file becomes a table: its rows go to the front of `rows`, an unknown cell as all values of the file's rows
-   together; `first` is d and `second` the number of rows. It is refused with 20 to 29. FOLIOKETTLE_ROWS places do for
-   any file. `length` is that of the whole file: a host that looks at its first FOLIOKETTLE_FILE bytes alone can't see
-   that more stands behind them; with one byte more it can. */
+/* A lesson file becomes a table: its rows go to the front of `rows`, an unknown cell as all d values; `first` is d and
+   `second` the number of rows. It is refused with 20 to 26, 28 or 29. FOLIOKETTLE_ROWS places do for any file. `length`
+   is that of the whole file: a host that looks at its first FOLIOKETTLE_FILE bytes alone can't see that more stands
+   behind them; with one byte more it can. */
 foliokettle_told foliokettle_read(const uint8_t *file, size_t length, uint64_t *rows, size_t places);
 
 /* A table becomes a lesson file: it goes to the front of the buffer, and `first` is its length, 8 + 8 * rows bytes; the
