@@ -30,13 +30,13 @@ pub rows-printed : (i j : ℕ)
 unfolding every
 rows-printed i j = refl
 
--- ---- 10 is the number of one refusal alone, and 27 of none
+-- ---- two numbers with laws of their own
 
-kept-apart : ℕ → Bool
-kept-apart n = eqb n 10 || eqb n 27
+reserved : ℕ → Bool
+reserved n = eqb n 10 || eqb n 27
 
-each : (r : Refusal) → (r ≡ NoRoom) ⊎ (kept-apart (number r) ≡ false)
-unfolding kept-apart
+each : (r : Refusal) → (r ≡ NoRoom) ⊎ (reserved (number r) ≡ false)
+unfolding reserved
 each TooLarge = inr refl
 each (BadRow i) = inr refl
 each Unsound = inr refl
@@ -61,17 +61,18 @@ each FewPlaces = inr refl
 each LongFile = inr refl
 each ShortBuffer = inr refl
 
+-- no other refusal has the number 10
 pub ten-no-room : (r : Refusal) → number r ≡ 10 → r ≡ NoRoom
-unfolding kept-apart
+unfolding reserved
 ten-no-room r e = elim (each r) [
   | inl same ↦ same
-  | inr other ↦ absurd (false≢true (sym other ∙ ap kept-apart e))
+  | inr other ↦ absurd (false≢true (sym other ∙ ap reserved e))
 ]
 
 -- wish 3: '27 is withdrawn', and is never given to anything else
 pub never-27 : (r : Refusal) → number r ≢ 27
-unfolding kept-apart
+unfolding reserved
 never-27 r e = elim (each r) [
   | inl same ↦ omega (arith, ap number same, e)
-  | inr other ↦ false≢true (sym other ∙ ap kept-apart e)
+  | inr other ↦ false≢true (sym other ∙ ap reserved e)
 ]
