@@ -9,7 +9,7 @@ use lib.Dec.{eqb}
 use borrow.Author.Tests.{eq-eqb, ne-eqb}
 use Rattle.sets.specs.Sets.{all, below, within}
 use Rattle.sets.proofs.Bools.{and-both, false-not}
-use Rattle.sets.proofs.ValuesBelow.{all-within}
+use Rattle.sets.proofs.ValuesBelow.{within-all}
 use Rattle.files.specs.Files.{valuesIn, rowIn, cellIn}
 
 module _ (file : List ℕ) (i : ℕ) where
@@ -28,7 +28,7 @@ module _ (file : List ℕ) (i : ℕ) where
   pub cell-within : (d : ℕ) → d ≡ valuesIn file → 1 ≤ d → below d (rowIn file i) ≡ true → within d (cellIn file i) ≡ true
   unfolding within
   cell-within d values some low = elim (ℕ-discrete (rowIn file i) zero) [
-    | yes e ↦ ap (within d) (unknown-cell e ∙ ap all (sym values)) ∙ all-within d some
+    | yes e ↦ ap (within d) (unknown-cell e ∙ ap all (sym values)) ∙ within-all d some
     | no ne ↦
         (let row = rowIn file i in
         ap (within d) (known-cell ne) ∙ and-both (not (eqb row zero)) (below d row) (false-not (eqb row zero) (ne-eqb row zero ne)) low)

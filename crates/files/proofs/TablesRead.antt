@@ -48,6 +48,7 @@ module _ (file : List ℕ) (d t : ℕ) (read : judged file ≡ Read d t) where
       ap (within d) (list-at (cellIn file) (countIn file) i (omega (arith, here, facts .count)))
       ∙ cell-within file i d (facts .values) some (row-below i here)
 
+  -- 1 and 2 do not apply to it
   pub read-right : TableRight mostRows d (cellsIn file)
   read-right = record {
     some-value = omega (arith, header-right .some-value, facts .values);

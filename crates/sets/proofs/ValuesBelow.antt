@@ -72,9 +72,9 @@ below-all d r = bool-ext (subset r (all d)) (below d r) inside outside
     outside b = has-subset r (all d) (λ v h. all-has d v (has-less d r v (below-less d r b) h))
 
 -- they are a row of the column, where it has a value
-pub all-within : (d : ℕ) → 1 ≤ d → within d (all d) ≡ true
+pub within-all : (d : ℕ) → 1 ≤ d → within d (all d) ≡ true
 unfolding within
-all-within d h =
+within-all d h =
     let some : all d ≢ zero = λ e. omega (arith, e, pow-mono h) in
     and-both (not (eqb (all d) zero)) (below d (all d)) (ap not (ne-eqb (all d) zero some)) (less-below d (all d) (ones-lt d))
 
