@@ -2,7 +2,7 @@
 use Prim.Native.Nat.{ℕ, zero, suc, ◌+◌, ◌-◌, ◌*◌, ◌/◌, ◌%◌, ◌^◌, ◌≤◌, ◌<◌, min}
 use mathlib.Core.Path.{◌≡◌, sym, ap, ap₂, ◌∙◌, subst}
 use mathlib.Core.Logic.{◌≢◌, ◌⊎◌, inl, inr}
-use mathlib.Core.Bool.{Bool, true, false, not, ◌&&◌, and-true, and_false}
+use mathlib.Core.Bool.{Bool, true, false, not, ◌&&◌, and-true, and-false}
 use native.Mathlib.Nat.{add-zero, mod-lt, zero-lt-suc, div-lt_iff_lt-mul, le-div_iff_mul-le, pow-suc, mul_comm, one-mul, eq-zero-or-pos}
 use native.Mathlib.Omega.{arith}
 use lib.Count.{count_trailing_zeros, count_leading_zeros, under, leading_of_zero, leading_top}
@@ -89,7 +89,7 @@ rest_has (suc k) n h ne v = elim (low_digit n) [
 ]
   where
     odd : (v : ℕ) → has n zero ≡ true → has (n / 2 * 2) v ≡ (has n v && not (eqb zero v))
-    odd zero t = has_double_low (n / 2) ∙ sym (and_false (has n zero))
+    odd zero t = has_double_low (n / 2) ∙ sym (and-false (has n zero))
     odd (suc v) t =
         has_double (n / 2) v ∙ sym (has-suc n v) ∙ sym (ap (λ (b : Bool). has n (suc v) && not b) (eqb-zero-suc v) ∙ and-true (has n (suc v)))
 

@@ -1,4 +1,6 @@
 // A row by value: a set of values. What knows its words stands first, then what goes by sets alone.
+#![tactic(auto)]
+
 ghost use Rattle.std.specs.Prelude.{◌≡◌, not, zero, ◌-◌, ◌<◌, ◌≤◌, eqb};
 ghost use Rattle.std.specs.Int.Bits.{bit_and, bit_or, bit_xor};
 ghost use Rattle.std.specs.Int.Count.{ones, count_trailing_zeros, count_leading_zeros};
@@ -11,7 +13,7 @@ mod lent; // lent.rt: the rows of lent words
 pub use lent::{bad_row, put_row, row_at, row_count};
 
 // A set of values below `VALUES`: value v is bit v.
-#[derive(Drop)]
+#[derive(Clone, Copy)]
 pub struct Row {
     pub low: u64,
 }
@@ -209,7 +211,7 @@ pub fn within(row: Row, d: usize) -> bool
 }
 
 // Where something stands first.
-#[derive(Drop)]
+#[derive(Clone, Copy)]
 pub enum Found {
     At(usize),
     Nothing,
