@@ -1,11 +1,13 @@
 // Every refusal of the request, under one name and one number.
+#![tactic(auto)]
+
 ghost use Rattle.std.specs.Prelude.{◌≡◌};
 ghost use Rattle.refusals.specs.Refusals.{number, row};
 
 pub mod tables; // tables.rt: refusals 1 and 2, of a lent table
 
 // Why a call or a lesson file is refused, in the order of the refusal numbers. `BadRow` and `RowOver` hold the row that is returned.
-#[derive(Drop)]
+#[derive(Clone, Copy)]
 pub enum Refusal {
     TooLarge,
     BadRow(usize),

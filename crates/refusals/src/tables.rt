@@ -10,7 +10,7 @@ use sets::Found;
 use sheet::Sheet;
 
 // A table that may be lent, or why not.
-#[derive(Drop)]
+#[derive(Clone, Copy)]
 pub enum Judged {
     Right,
     Refused(Refusal),
