@@ -1,6 +1,8 @@
 // The first step of DISTINCT: marks the minimal rows of a view, of equal ones the first.
 // Rows of one value are minimal, and no row that holds such a value and another one is. The other rows are judged by how many values they have,
 // few values first: a proper subset has fewer, so it is judged before. A row that is the same as the row before it is not the first of equal ones.
+#![tactic(auto)]
+
 ghost use Rattle.std.specs.Prelude.{◌≡◌, ◌≤◌, length};
 ghost use Rattle.sets.specs.Limits.{most_in_view};
 ghost use Rattle.sets.specs.Rows.{rows_of};
