@@ -16,7 +16,7 @@ use sets::Row;
 // Beside the seats' rows, columns and mates: `d` is how many values the column has, `free` the values below d that have no row,
 // `dead` values that never come free again, `fresh` values that no row on a seat holds,
 // `heavy` the seats that stand in no column, and those before `entered` are as they should be.
-#[derive(Drop)]
+#[derive(Clone, Copy)]
 pub struct Seating {
     pub d: usize,
     pub used: usize,
