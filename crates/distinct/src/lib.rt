@@ -1,4 +1,6 @@
 // DISTINCT over a view: the minimal rows, then the other rows in view order, then the kept positions.
+#![tactic(auto)]
+
 ghost use Rattle.std.specs.Prelude.{◌≡◌, ◌++◌, length, drop};
 ghost use Rattle.sets.specs.Rows.{rows_of};
 ghost use Rattle.theory.specs.Kept.{kept};
@@ -53,7 +55,7 @@ pub fn distinct(d: usize, view: &[u64], list: &mut [usize]) -> usize
 }
 
 // How many rows are kept, or a refusal.
-#[derive(Drop)]
+#[derive(Clone, Copy)]
 pub enum Answer {
     Kept(usize),
     Refused(Refusal),

@@ -1,4 +1,6 @@
 // Lesson files: a table out of bytes, all at once or row by row, and into bytes.
+#![tactic(auto)]
+
 ghost use Rattle.std.specs.Prelude.{◌≡◌, ◌≤◌, ◌+◌, ◌*◌, ◌++◌, length, drop};
 ghost use Rattle.sets.specs.Rows.{row_words, width, Holds, rows_of, in_words};
 ghost use Rattle.files.specs.Files.{values_in, count_in, cell_in, cells_in};
@@ -19,28 +21,28 @@ mod writer; // writer.rt: a table's bytes, put into a buffer
 pub use reader::{Reader, take};
 
 // A file that is read has d values and T rows.
-#[derive(Drop)]
+#[derive(Clone, Copy)]
 pub enum Lesson {
     Read(usize, usize),
     Refused(Refusal),
 }
 
 // A table that is saved takes so many bytes.
-#[derive(Drop)]
+#[derive(Clone, Copy)]
 pub enum Saved {
     Length(usize),
     Refused(Refusal),
 }
 
 // What a reader hands out: a row, or that there are no more.
-#[derive(Drop)]
+#[derive(Clone, Copy)]
 pub enum NextRow {
     Cell(Row),
     NoMore,
 }
 
 // A row, and the cursor after it.
-#[derive(Drop)]
+#[derive(Clone, Copy)]
 pub struct Step {
     pub row: NextRow,
     pub next: usize,

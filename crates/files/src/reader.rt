@@ -5,7 +5,7 @@ ghost use Rattle.files.specs.RowByRow.{step_at, moved};
 use crate::{NextRow, Step, step_at};
 
 // `at` is the number of the row that is handed out next.
-#[derive(Drop)]
+#[derive(Clone, Copy)]
 pub struct Reader<'a> {
     pub file: &'a [u8],
     pub at: usize,

@@ -1,4 +1,6 @@
 // The store for hosts in other languages: plain numbers and slices, and nothing that a host has to promise.
+#![tactic(auto)]
+
 ghost use Rattle.std.specs.Prelude.{◌≡◌, length};
 ghost use Rattle.sets.specs.Rows.{rows_of};
 ghost use Rattle.distinct.specs.Asked.{ask_answer, listed};

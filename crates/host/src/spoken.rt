@@ -9,7 +9,7 @@ use store::{Answer, Call, Change, Question, Target};
 
 // The refusal number, 0 where the call is accepted, and the values that the answer returns, 0 where it has none.
 #[repr(C)]
-#[derive(Drop)]
+#[derive(Clone, Copy)]
 pub struct Plain {
     pub refusal: u64,
     pub first: u64,
@@ -18,14 +18,14 @@ pub struct Plain {
 
 // What a host is handed back.
 #[repr(C)]
-#[derive(Drop)]
+#[derive(Clone, Copy)]
 pub struct Handed {
     pub told: Plain,
     pub sheet: Sheet,
 }
 
 // What a host asks: a call, or something that is none.
-#[derive(Drop)]
+#[derive(Clone, Copy)]
 pub enum Asked {
     One(Call),
     Nothing,

@@ -1,4 +1,6 @@
 // For the class server, which holds a single sheet: a desk's call that alters it in place.
+#![tactic(auto)]
+
 ghost use Rattle.std.specs.Prelude.{◌≡◌, length};
 ghost use Rattle.sets.specs.Rows.{rows_of};
 ghost use Rattle.store.specs.Calls.{answered, sheet_after, replied, told};

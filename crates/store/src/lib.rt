@@ -1,4 +1,6 @@
 // The calls of a lesson: begin, and what a desk may ask; what is answered, and the sheet that is handed back.
+#![tactic(auto)]
+
 ghost use Rattle.std.specs.Prelude.{◌≡◌, length};
 ghost use Rattle.sets.specs.Rows.{rows_of};
 ghost use Rattle.store.specs.Answers.{accepted};
@@ -14,14 +16,14 @@ mod desk; // desk.rt: refusals 4 to 12, and the answers
 pub mod parts; // parts.rt: a desk's call on the parts of a sheet, where they lie
 
 // What a delete is aimed at: a table row by its number, or an own row by its place among the desk's own.
-#[derive(Drop)]
+#[derive(Clone, Copy)]
 pub enum Target {
     Table(usize),
     Own(usize),
 }
 
 // What a desk may do to what it sees: `Insert` holds the row.
-#[derive(Drop)]
+#[derive(Clone, Copy)]
 pub enum Change {
     Delete(Target),
     Insert(Row),
@@ -29,7 +31,7 @@ pub enum Change {
 }
 
 // What a desk may ask: a question hands the sheet back as it came.
-#[derive(Drop)]
+#[derive(Clone, Copy)]
 pub enum Question {
     Look(usize),
     Count,
@@ -37,14 +39,14 @@ pub enum Question {
 }
 
 // The calls of a desk.
-#[derive(Drop)]
+#[derive(Clone, Copy)]
 pub enum Call {
     Do(Change),
     Ask(Question),
 }
 
 // What is answered: a change is done; the set at a position; the rows in the view and the own rows; how many positions were listed; or a refusal.
-#[derive(Drop)]
+#[derive(Clone, Copy)]
 pub enum Answer {
     Done,
     Seen(Row),
@@ -54,7 +56,7 @@ pub enum Answer {
 }
 
 // What every call hands back.
-#[derive(Drop)]
+#[derive(Clone, Copy)]
 pub struct Reply {
     pub answer: Answer,
     pub sheet: Sheet,

@@ -78,7 +78,7 @@ fn make(
 }
 
 // What comes of a call on the parts of a sheet: the answer, and how many places are used then.
-#[derive(Drop)]
+#[derive(Clone, Copy)]
 pub struct Outcome {
     pub answer: Answer,
     pub used: usize,

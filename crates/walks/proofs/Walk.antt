@@ -14,10 +14,11 @@ pub use base.Fml.{GName, Lft, Share, Fml, ftrue, flft, fat, fobs, fbor, fsep, fl
 pub use prog.Memory.{Memory}
 pub use prog.Routine.{Routine}
 pub use prog.Wp.{Heap, Calls, Loops, WpFn, Tables}
-pub use ghost.Atoms.{Atoms, sem}
+pub use ghost.Atoms.{Atoms}
+pub use Rattle.std.specs.Borrow.{sem}
 pub use contract.Monad.{Fun, fact}
-unfoldable pub use contract.Running.{given_of, tables, tables_of}
-pub use types.Kit.{Given, Item, ‵, raw, ◌⊛◌, ⋆, some, later, ◌$◌, ◌∵◌, !, qed, by, move, keep, drop, use1, use2, use3, split, join, pick, rewrite}
+unfoldable pub use contract.Running.{tables, tables_of}
+pub use types.Kit.{Item, ‵, raw, ◌⊛◌, ⋆, some, later, ◌$◌, ◌∵◌, !, qed, by, move, keep, drop, use1, use2, use3, split, join, pick, rewrite}
 pub use types.Kit.{fsplit, fsplit3, fjoin, fjoin3, feq_l, feq_i, suffices, frame, await, done, given, learn, fpick, fpack}
 pub use types.Run.{look, look_raw, init, store_raw, forget, stop, hop, fld, from, load, addr, of_opd, and_then, no_more, assigns, land, returns}
 pub use types.Run.{enter, alloc1, alloc0, params1, pass1, pass0, free1, free0, lit}
