@@ -56,7 +56,7 @@ write_determined = record {
 abbrev pub Makes : (κs : Lfts 1) → Args new.signature κs → Res new.signature κs → AtExit new.ended κs → Type 0
 Makes κs (file, _) r e = (r.file ≡ file) × (r.at ≡ 0)
 
-pub new_contract : Contract new.ended (λ M 𝓤. new.clauses 𝓤) Makes
+pub new_contract : Contract new.ended (λ M 𝓤 𝓛. new.clauses 𝓛) Makes
 new_contract = record { is = λ M 𝓤 𝓛 mem run κs a. refl }
 
 pub new_determined : (κs : Lfts 1) (a : Args new.signature κs) (r r' : Res new.signature κs) (e e' : AtExit new.ended κs)
@@ -67,7 +67,7 @@ new_determined κs a r r' e e' p q = λ i. record { file = (p.0 ∙ sym q.0) i; 
 abbrev pub Hands : (κs : Lfts 2) → Args next.signature κs → Res next.signature κs → AtExit next.ended κs → Type 0
 Hands κs (r, _) x (r', _) = (x ≡ (step_at r.now.file.now r.now.at).row) × (r'.now ≡ moved r.now)
 
-pub next_contract : Contract next.ended (λ M 𝓤. next.clauses 𝓤) Hands
+pub next_contract : Contract next.ended (λ M 𝓤 𝓛. next.clauses 𝓛) Hands
 next_contract = record { is = λ M 𝓤 𝓛 mem run κs a. refl }
 
 pub next_determined : (κs : Lfts 2) (a : Args next.signature κs) (x x' : Res next.signature κs) (e e' : AtExit next.ended κs)

@@ -1,9 +1,9 @@
 -- A reader made of a file and a cursor: its type, and what it owns of what the file's slice owns. Assumes `Logic`.
 use types.Logic.{Logic, sem}
 use denote.Ref.{Bor}
-use Rattle.walks.proofs.Walk.{refl, ℕ, ◌<◌, ◌^◌, List, [], ◌∷◌, length, Ura, named, w64, Val, ent, Lft, Fml, sem, ‵, ◌$◌, ◌∵◌, ! }
+use Rattle.walks.proofs.Walk.{refl, ℕ, ◌<◌, ◌^◌, List, [], ◌∷◌, length, Ura, named, w64, Val, ent, Lft, Fml, ‵, ◌$◌, ◌∵◌, ! }
 use Rattle.walks.proofs.Walk.{qed, by}
-use Rattle.walks.proofs.Walk.{move, fjoin, RattleType, Is, uint_Makes, u8, usize, RefT, NamedLft, named_lft, slice_val, ShrSlice, owned, nothing}
+use Rattle.walks.proofs.Walk.{move, fjoin, RattleType, Is, uint_Makes, u8, usize, NamedLft, named_lft, slice_val, ShrSlice, owned, nothing}
 use Rattle.walks.proofs.Walk.{own_shut}
 use Rattle.files.specs.declared.reader.Reader.{Reader}
 use Rattle.files.specs.contracts.reader.Reader as readers

@@ -1,0 +1,27 @@
+-- `judge_rows` meets its contract: 26 by the lowest row that has a value d or above. Assumes nothing.
+use Prim.Native.Nat.{ℕ}
+use mathlib.Core.Path.{◌≡◌, refl, sym, ◌∙◌}
+use mathlib.Core.Bool.{not}
+use mathlib.Core.List.{List}
+use Rattle.sets.specs.Sets.{below}
+use Rattle.refusals.specs.Cases.{decided}
+use Rattle.files.specs.Rows.{lowest_to}
+use Rattle.files.specs.Files.{values_in, count_in, row_in}
+use Rattle.files.specs.FileCases.{row_over, row_cases}
+use Rattle.files.proofs.judge.judge_rows.Goals as goal
+
+-- by the d and the T that the code has
+found-over : (file : List ℕ) (d t : ℕ) → d ≡ values_in file → t ≡ count_in file → row_over file ≡ lowest_to (λ i. not (below d (row_in file i))) t
+found-over file d t values count = sym (λ j. lowest_to (λ i. not (below (values j) (row_in file i))) (count j))
+
+pub returns-in-At : goal.returns-in-At
+unfolding decided row_cases
+returns-in-At c =
+    let found = sym c.in-At.ensures in
+    rw (found-over c.args.file.now c.args.d c.args.t c.requires.0 c.requires.1 ∙ found) refl
+
+pub returns-in-Nothing : goal.returns-in-Nothing
+unfolding decided row_cases
+returns-in-Nothing c =
+    let none = sym c.in-Nothing.ensures in
+    rw (found-over c.args.file.now c.args.d c.args.t c.requires.0 c.requires.1 ∙ none) refl

@@ -1,0 +1,41 @@
+-- `write` meets its contract. Assumes nothing.
+use Prim.Native.Nat.{◌+◌, ◌*◌, ◌≤◌, ◌<◌}
+use mathlib.Core.Path.{refl, sym, ◌∙◌}
+use mathlib.Core.List.{List}
+use native.Mathlib.Omega.{arith}
+use lib.ListN.{length}
+use Rattle.sets.specs.Limits.{most_rows}
+use Rattle.sets.specs.Rows.{rows_of}
+use Rattle.refusals.specs.Cases.{Case}
+use Rattle.refusals.specs.TableCases.{table_cases}
+use Rattle.refusals.proofs.Outcomes.{NoneApplies}
+use Rattle.refusals.proofs.TablesJudged.{judged_right, judged_refused, right_parts}
+use Rattle.files.proofs.Saving.{file_put}
+use Rattle.files.proofs.TablesSaved.{still_refused, short, saved}
+use Rattle.files.proofs.write.Goals as goal
+use Rattle.files.proofs.write.Lts as lts
+use Rattle.files.proofs.write.Tie as tie
+use Rattle.files.proofs.write.Reads as reads
+
+pub overflow_mul-length : goal.overflow_mul-length
+overflow_mul-length c = record { fits = omega (arith, (right_parts most_rows _ _ (judged_right _ (sym c.in-Right.ensures))).small, c.row_count-t.ensures) }
+
+pub overflow_add-length : goal.overflow_add-length
+overflow_add-length c = record { fits = omega (arith, (right_parts most_rows _ _ (judged_right _ (sym c.in-Right.ensures))).small, c.row_count-t.ensures) }
+
+pub returns-then-buffer-length : goal.returns-then-buffer-length
+returns-then-buffer-length c =
+    let less : length c.args.buffer.now < 8 + 8 * c.row_count-t.result = omega (arith, c.if-buffer-length.true) in
+    (sym (short _ _ _ (judged_right _ (sym c.in-Right.ensures)) _ c.row_count-t.ensures less), refl)
+
+pub returns-else-buffer-length : goal.returns-else-buffer-length
+returns-else-buffer-length c =
+    let enough : 8 + 8 * c.row_count-t.result ≤ length c.args.buffer.now = omega (arith, c.if-buffer-length.false) in (
+      sym (saved _ _ _ (judged_right _ (sym c.in-Right.ensures)) _ c.row_count-t.ensures enough),
+      file_put _ _ _ _ _ _ c.row_count-t.ensures c.put_header.ensures c.put_rows.ensures,
+    )
+
+pub returns-in-Refused : goal.returns-in-Refused
+returns-in-Refused c =
+    let refused = judged_refused _ _ (sym c.in-Refused.ensures) in
+    (sym (still_refused _ _ _ _ refused), refl)

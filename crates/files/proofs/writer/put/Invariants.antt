@@ -1,0 +1,9 @@
+-- `put` meets its contract. The invariant: the bytes from the ones left on are done. Assumes nothing.
+use Rattle.files.proofs.Saving.{Putting}
+use Rattle.files.proofs.writer.put.Given as goal
+
+abbrev pub invariant-loop-left : goal.invariant-loop-left
+invariant-loop-left l = Putting l.initial.buffer l.from l.n l.value l.left l.rest l.buffer
+
+abbrev pub decreases-loop-left : goal.decreases-loop-left
+decreases-loop-left l = l.left
