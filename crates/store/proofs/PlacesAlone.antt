@@ -3,7 +3,7 @@
 use Prim.Native.Nat.{ℕ, zero, suc, ◌+◌, ◌-◌, ◌*◌, ◌≤◌, ◌<◌}
 use mathlib.Core.Path.{◌≡◌, refl, sym, ap, ◌∙◌}
 use mathlib.Core.Logic.{◌≢◌, inl, inr}
-use mathlib.Core.Bool.{true, and_false}
+use mathlib.Core.Bool.{true, and-false}
 use mathlib.Core.List.{List, [], ◌∷◌}
 use native.Mathlib.Decide.{dec_lt}
 use native.Mathlib.Omega.{arith}
@@ -74,7 +74,7 @@ module _ {d : ℕ} {table : List ℕ} {desks : ℕ} {tell : Store} (begun : acce
             lt-leb desks k (omega arith),
             within_one d (good_parts d table desks begun).right.some_value,
             lt-leb most_held (held_by tell k past) room,
-            and_false (leb 8 (held_by tell k past)),
+            and-false (leb 8 (held_by tell k past)),
           )
 
       gets : (k n : ℕ) → k < 8 → (past : List Turn) → held_by tell 8 past ≡ zero → held_by tell k past + n ≤ most_held
