@@ -53,7 +53,7 @@ Alters κs (s, (table, (d, (desk, (kind, (n, (list, _))))))) r (s', (table', (d'
     × (s'.now ≡ (handed_by (asked_by kind n) d (rows_of table.now) s.now desk (length list.now)).sheet)
     × (list'.now ≡ list_of (asked_by kind n) d (rows_of table.now) s.now desk list.now)
 
-pub host_alter_contract : Contract alter.ended (λ M 𝓤. alter.clauses 𝓤) Alters
+pub host_alter_contract : Contract alter.ended (λ M 𝓤 𝓛. alter.clauses 𝓛) Alters
 host_alter_contract = record { is = λ M 𝓤 𝓛 mem run κs a. refl }
 
 pub host_alter_determined : (κs : Lfts 3) (a : Args alter.signature κs) (r r' : Res alter.signature κs) (e e' : AtExit alter.ended κs)

@@ -10,8 +10,7 @@ use crate::spoken::Plain;
 use files::{Lesson, Saved};
 
 // A lesson file into a lent list. Answers d and T, or a refusal and its row.
-#[unsafe(no_mangle)]
-pub extern "C" fn foliokettle_read(file: &[u8], rows: &mut [u64]) -> Plain
+pub fn foliokettle_read(file: &[u8], rows: &mut [u64]) -> Plain
     ensures { (result ≡ plain_read (read_answer file.now (length (rows_of rows.old))))
         × (rows.new ≡ filled file.now rows.old
         (read_answer file.now (length (rows_of rows.old)))) }
@@ -28,8 +27,7 @@ pub extern "C" fn foliokettle_read(file: &[u8], rows: &mut [u64]) -> Plain
 }
 
 // A table as a lesson file into a lent buffer. Answers the file's length, or a refusal and its row.
-#[unsafe(no_mangle)]
-pub extern "C" fn foliokettle_write(d: usize, table: &[u64], buffer: &mut [u8]) -> Plain
+pub fn foliokettle_write(d: usize, table: &[u64], buffer: &mut [u8]) -> Plain
     ensures { (result ≡ plain_saved (write_answer d (rows_of table.now) (length buffer.old)))
         × (buffer.new ≡ buffer_after d (rows_of table.now) buffer.old
         (write_answer d (rows_of table.now) (length buffer.old))) }

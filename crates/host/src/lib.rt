@@ -18,8 +18,7 @@ mod spoken; // spoken.rt: calls and answers as plain numbers
 pub use lessons::{foliokettle_read, foliokettle_write};
 
 // DISTINCT over a view that belongs to no desk. Answers how many positions stand at the front of the list, or a refusal and its row.
-#[unsafe(no_mangle)]
-pub extern "C" fn foliokettle_distinct(d: usize, view: &[u64], list: &mut [usize]) -> Plain
+pub fn foliokettle_distinct(d: usize, view: &[u64], list: &mut [usize]) -> Plain
     ensures { (result ≡ plain_kept (ask_answer d (rows_of view.now) (length list.old)))
         × (list.new ≡ listed d (rows_of view.now) list.old
         (ask_answer d (rows_of view.now) (length list.old))) }
@@ -36,8 +35,7 @@ pub extern "C" fn foliokettle_distinct(d: usize, view: &[u64], list: &mut [usize
 }
 
 // A lesson begins.
-#[unsafe(no_mangle)]
-pub extern "C" fn foliokettle_begin(table: &[u64], d: usize, desks: usize) -> Handed
+pub fn foliokettle_begin(table: &[u64], d: usize, desks: usize) -> Handed
     ensures { result ≡ handed (begun d (rows_of table.now) desks) }
 {
     let reply = store::begin(table, d, desks);
@@ -48,8 +46,7 @@ pub extern "C" fn foliokettle_begin(table: &[u64], d: usize, desks: usize) -> Ha
 }
 
 // A desk calls, by the kind of the call and its argument. What is no call is refused by the largest number, and nothing changes.
-#[unsafe(no_mangle)]
-pub extern "C" fn foliokettle_call(
+pub fn foliokettle_call(
     table: &[u64],
     d: usize,
     sheet: Sheet,
@@ -102,8 +99,7 @@ pub extern "C" fn foliokettle_call(
 }
 
 // The same for a host that keeps a single sheet: the sheet becomes the one that `foliokettle_call` hands back.
-#[unsafe(no_mangle)]
-pub extern "C" fn foliokettle_alter(
+pub fn foliokettle_alter(
     sheet: &mut Sheet,
     table: &[u64],
     d: usize,

@@ -21,7 +21,7 @@ Alters κs (s, (table, (d, (desk, (call, (list, _)))))) r (s', (table', (d', (de
     × (s'.now ≡ sheet_after d (rows_of table.now) s.now desk call (length list.now))
     × (list'.now ≡ (told d (rows_of table.now) s.now desk call list.now).list)
 
-pub alter_contract : Contract alter.ended (λ M 𝓤. alter.clauses 𝓤) Alters
+pub alter_contract : Contract alter.ended (λ M 𝓤 𝓛. alter.clauses 𝓛) Alters
 alter_contract = record { is = λ M 𝓤 𝓛 mem run κs a. refl }
 
 -- the answer, the sheet, and every place of the lent list

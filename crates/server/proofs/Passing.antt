@@ -1,6 +1,6 @@
 -- What the walks of `alter` and `altered` have in common: machine values, and the parameters after the sheet.
 use denote.Ref.{Bor}
-use Rattle.walks.proofs.Walk.{ℕ, [], ◌∷◌, List, length, w64, Val, vint, RefT, slice_val}
+use Rattle.walks.proofs.Walk.{ℕ, [], ◌∷◌, List, length, w64, Val, vint, slice_val}
 use denote.Struct.Laws as struct
 use denote.Enum.Laws as enum
 use Rattle.sheet.specs.declared.Sheet.{Sheet}
