@@ -2,6 +2,7 @@
 // Value v is in a set where bit v of the set's number is 1; in the same way the set numbered s is in a family where bit s of the
 // family's number is 1.
 // A family has room for the sets of 6 values. A sublist of a view is given by marks: position i is in it where bit i is 1.
+#![tactic(auto)]
 
 // The marks of every position.
 pub const EVERY: u64 = 0xffff_ffff_ffff_ffff;

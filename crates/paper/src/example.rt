@@ -4,9 +4,11 @@ use crate::rows::show_rows;
 use distinct::Answer;
 use families::EVERY;
 use show::{Names, Tally, text};
+use std::io;
+use std::io::Write;
 
 // The numbers of the line that has the view, of which so many are filled; the marks of the rows that DISTINCT keeps; and how the comparisons went.
-#[derive(Drop)]
+#[derive(Clone, Copy)]
 pub struct Example {
     pub row: [u64; 12],
     pub filled: usize,
@@ -51,25 +53,33 @@ fn kept(d: usize, view: &[u64]) -> u64 {
 }
 
 // The rows, and those that are kept.
-fn show_view(names: Names, view: &[u64], kept: u64) {
-    text(b"\n  rows:                   ");
-    show_rows(names, view, EVERY, true);
-    text(b"\n  DISTINCT keeps:         ");
-    show_rows(names, view, kept, true);
+fn show_view(out: &mut impl Write, names: Names, view: &[u64], kept: u64) -> io::Result<()> {
+    text(out, b"\n  rows:                   ")?;
+    show_rows(out, names, view, EVERY, true)?;
+    text(out, b"\n  DISTINCT keeps:         ")?;
+    show_rows(out, names, view, kept, true)
 }
 
 // The kept rows have the family of all.
-fn same_family(names: Names, view: &[u64], kept: u64) -> bool {
+fn same_family(out: &mut impl Write, names: Names, view: &[u64], kept: u64) -> io::Result<bool> {
     let whole = families::family(view, EVERY);
-    text(b"\n  family of all rows:       ");
-    show::family(names, whole);
-    text(b"\n  family of the kept rows:  ");
-    compare(FAMILY, names, view, families::family(view, kept), whole)
+    text(out, b"\n  family of all rows:       ")?;
+    show::family(out, names, whole)?;
+    text(out, b"\n  family of the kept rows:  ")?;
+    compare(
+        out,
+        FAMILY,
+        names,
+        view,
+        families::family(view, kept),
+        whole,
+    )
 }
 
 // No fewer rows would do.
-fn fewest(view: &[u64], kept: u64) -> bool {
+fn fewest(out: &mut impl Write, view: &[u64], kept: u64) -> io::Result<bool> {
     same_number(
+        out,
         b"  fewest rows that have it: ",
         families::size(kept) as u64,
         families::fewest(view) as u64,
@@ -77,23 +87,34 @@ fn fewest(view: &[u64], kept: u64) -> bool {
 }
 
 // Shows the rows, the kept ones and the families, and compares them.
-fn shown(before: Tally, names: Names, view: &[u64], kept: u64) -> Tally {
-    show_view(names, view, kept);
-    let alike = before.count(same_family(names, view, kept));
-    alike.count(fewest(view, kept))
+fn shown(
+    out: &mut impl Write,
+    before: Tally,
+    names: Names,
+    view: &[u64],
+    kept: u64,
+) -> io::Result<Tally> {
+    show_view(out, names, view, kept)?;
+    let alike = before.count(same_family(out, names, view, kept)?);
+    Ok(alike.count(fewest(out, view, kept)?))
 }
 
 // The example of a line's numbers.
-pub fn look(before: Tally, row: [u64; 12], filled: usize) -> Example {
+pub fn look(
+    out: &mut impl Write,
+    before: Tally,
+    row: [u64; 12],
+    filled: usize,
+) -> io::Result<Example> {
     let d = row[1] as usize;
     let names = names(row);
     let view = view(&row, filled);
     let kept = kept(d, view);
-    let tally = shown(before, names, view, kept);
-    Example {
+    let tally = shown(out, before, names, view, kept)?;
+    Ok(Example {
         row,
         filled,
         kept,
         tally,
-    }
+    })
 }

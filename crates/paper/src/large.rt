@@ -2,6 +2,8 @@
 use crate::compare::same_number;
 use distinct::Answer;
 use show::Tally;
+use std::io;
+use std::io::Write;
 
 // How many positions were answered; a refusal counts as none.
 fn answered(answer: Answer) -> usize {
@@ -25,15 +27,28 @@ fn in_order(list: &[usize; 320]) -> usize {
 }
 
 // DISTINCT on a view of so many equal rows keeps as many as wanted, and they are the first ones.
-pub fn keeps_first(tally: Tally, d: usize, many: usize, row: u64, wanted: u64) -> Tally {
+pub fn keeps_first(
+    out: &mut impl Write,
+    tally: Tally,
+    d: usize,
+    many: usize,
+    row: u64,
+    wanted: u64,
+) -> io::Result<Tally> {
     let view = [row; 320];
     // 999 is no position here, so that a place which was not written ends the order.
     let mut list = [999usize; 320];
     let n = answered(distinct::ask(d, show::part(&view, 0, many), &mut list));
-    let counted = tally.count(same_number(b"\n  rows kept:                ", n as u64, wanted));
-    counted.count(same_number(
+    let counted = tally.count(same_number(
+        out,
+        b"\n  rows kept:                ",
+        n as u64,
+        wanted,
+    )?);
+    Ok(counted.count(same_number(
+        out,
         b"  in order from position 0: ",
         in_order(&list) as u64,
         wanted,
-    ))
+    )?))
 }

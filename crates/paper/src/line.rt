@@ -10,6 +10,8 @@ use crate::example::Example;
 use crate::{example, large};
 use families::{EVERY, family};
 use show::{Tally, text, texts};
+use std::io;
+use std::io::Write;
 
 const VIEW: u64 = 1;
 
@@ -36,49 +38,62 @@ fn named(rows: &[u64]) -> u64 {
 }
 
 // What the line says of the rows that it names, of the example before it.
-fn compared(example: Example, what: u64, marks: u64, wanted: u64) -> bool {
+fn compared(
+    out: &mut impl Write,
+    example: Example,
+    what: u64,
+    marks: u64,
+    wanted: u64,
+) -> io::Result<bool> {
     let row = example.row;
     let names = example::names(row);
     let view = example::view(&row, example.filled);
     match what {
-        FAMILY => compare(FAMILY, names, view, family(view, marks), wanted),
-        ROWS => compare(ROWS, names, view, example.kept & marks, wanted / 2),
-        _ => compare(FAMILY, names, view, family(view, EVERY) | wanted, wanted),
+        FAMILY => compare(out, FAMILY, names, view, family(view, marks), wanted),
+        ROWS => compare(out, ROWS, names, view, example.kept & marks, wanted / 2),
+        _ => compare(
+            out,
+            FAMILY,
+            names,
+            view,
+            family(view, EVERY) | wanted,
+            wanted,
+        ),
     }
 }
 
 // How the comparisons went after one more line about the example.
-fn judged(example: Example, row: [u64; 12]) -> Tally {
+fn judged(out: &mut impl Write, example: Example, row: [u64; 12]) -> io::Result<Tally> {
     let tally = example.tally;
     if row[0] == LARGE {
-        return large::keeps_first(tally, row[1] as usize, row[2] as usize, row[3], row[4]);
+        return large::keeps_first(out, tally, row[1] as usize, row[2] as usize, row[3], row[4]);
     }
     let what = row[0];
     let all = &row[..];
     let marks = named(&all[1..4]);
-    tally.count(compared(example, what, marks, gathered(&all[4..])))
+    Ok(tally.count(compared(out, example, what, marks, gathered(&all[4..]))?))
 }
 
 // The numbers of a line.
-fn trial(example: Example, text: &[u8]) -> Example {
+fn trial(out: &mut impl Write, example: Example, text: &[u8]) -> io::Result<Example> {
     let mut row = [0u64; 12];
     let filled = texts::numbers(text, &mut row);
     let tally = example.tally;
     if row[0] == VIEW {
-        return example::look(tally, row, filled);
+        return example::look(out, tally, row, filled);
     }
     let mut next = example;
-    let counted = judged(example, row);
+    let counted = judged(out, example, row)?;
     next.tally = counted;
-    next
+    Ok(next)
 }
 
-pub fn play(example: Example, line: &[u8]) -> Example {
+pub fn play(out: &mut impl Write, example: Example, line: &[u8]) -> io::Result<Example> {
     let bar = texts::find(line, 0, texts::BAR);
-    text(&line[0..bar]);
+    text(out, &line[0..bar])?;
     if bar == line.len() {
-        text(b"\n");
-        return example;
+        text(out, b"\n")?;
+        return Ok(example);
     }
-    trial(example, &line[bar..])
+    trial(out, example, &line[bar..])
 }

@@ -3,6 +3,8 @@ use crate::rule::kept;
 use distinct::Answer;
 use families::has;
 use show::{Tally, say, text};
+use std::io;
+use std::io::Write;
 
 // How many places are lent: more than any view here has rows, so that some must stay as they were.
 const PLACES: usize = 10;
@@ -67,33 +69,44 @@ fn agrees(view: &[u64], n: usize, list: &[usize; PLACES]) -> bool {
 }
 
 // A view on which the two differ: its rows and both answers.
-fn show_difference(view: &[u64], n: usize, list: &[usize; PLACES]) {
+fn show_difference(
+    out: &mut impl Write,
+    view: &[u64],
+    n: usize,
+    list: &[usize; PLACES],
+) -> io::Result<()> {
     let rule = kept(view);
     let wanted = expected(rule);
-    text(b"DIFFERENT on");
-    show::rows(view);
-    say(b"\n  the store answers #, and its list is", &[n as u64]);
-    show::numbers(list);
+    text(out, b"DIFFERENT on")?;
+    show::rows(out, view)?;
     say(
+        out,
+        b"\n  the store answers #, and its list is",
+        &[n as u64],
+    )?;
+    show::numbers(out, list)?;
+    say(
+        out,
         b"\n  by definition it is #, and the list",
         &[families::size(rule) as u64],
-    );
-    show::numbers(&wanted);
+    )?;
+    show::numbers(out, &wanted)?;
     say(
+        out,
         b"\n  the fewest rows that will do are #\n",
         &[families::fewest(view) as u64],
-    );
+    )
 }
 
 // Compares on one view. The first few on which the two differ are shown.
-pub fn compare(tally: Tally, d: usize, view: &[u64]) -> Tally {
+pub fn compare(out: &mut impl Write, tally: Tally, d: usize, view: &[u64]) -> io::Result<Tally> {
     let mut list = [LENT; PLACES];
     let n = answered(distinct::ask(d, view, &mut list));
     if agrees(view, n, &list) {
-        return tally.count(true);
+        return Ok(tally.count(true));
     }
     if tally.differ < SHOWN {
-        show_difference(view, n, &list);
+        show_difference(out, view, n, &list)?;
     }
-    tally.count(false)
+    Ok(tally.count(false))
 }

@@ -1,8 +1,10 @@
 // Comparisons counted.
 use crate::say;
+use std::io;
+use std::io::Write;
 
 // How many agree, and how many differ.
-#[derive(Drop)]
+#[derive(Clone, Copy)]
 pub struct Tally {
     pub agree: usize,
     pub differ: usize,
@@ -38,12 +40,12 @@ impl Tally {
     }
 
     // The last line: all agree, or how many do not.
-    pub fn conclude(self) {
+    pub fn conclude(self, out: &mut impl Write) -> io::Result<()> {
         let counts = [self.differ as u64, self.agree as u64];
         if self.differ == 0 {
-            say(b"\nAll # comparisons agree.\n", &counts[1..]);
+            say(out, b"\nAll # comparisons agree.\n", &counts[1..])
         } else {
-            say(b"\n# comparisons DIFFER, and # agree.\n", &counts);
+            say(out, b"\n# comparisons DIFFER, and # agree.\n", &counts)
         }
     }
 }

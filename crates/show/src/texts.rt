@@ -1,6 +1,9 @@
 // Texts: the next place of a byte, the first bytes, a line, and the numbers.
 ghost use Rattle.std.specs.Prelude.{◌≤◌, length};
 
+use std::io;
+use std::io::Write;
+
 pub const NEWLINE: u8 = 10;
 
 // What stands between the words of a line and its numbers.
@@ -31,20 +34,19 @@ pub fn front(text: &[u8], length: usize) -> &[u8] {
 }
 
 // Says one of some lines, counted from 0, with the numbers that it has; the last where there are not so many.
-pub fn say_line(lines: &[u8], line: u64, numbers: &[u64]) {
+pub fn say_line(out: &mut impl Write, lines: &[u8], line: u64, numbers: &[u64]) -> io::Result<()> {
     let mut at: usize = 0;
     let mut left = line;
     while 0 < left {
         let end = find(lines, at, NEWLINE);
         if end == lines.len() {
-            crate::say(&lines[at..], numbers);
-            return;
+            return crate::say(out, &lines[at..], numbers);
         }
         at = end + 1;
         left -= 1;
     }
     let end = find(lines, at, NEWLINE);
-    crate::say(&lines[at..end], numbers);
+    crate::say(out, &lines[at..end], numbers)
 }
 
 // A number with one digit more. What would be too large is the largest number.
