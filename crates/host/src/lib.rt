@@ -10,12 +10,13 @@ ghost use Rattle.host.specs.Spoken.{asked_by, handed_by, handed, list_of};
 
 use distinct::Answer;
 use sheet::Sheet;
-use spoken::{Asked, Handed, Plain};
+use spoken::Asked;
 
 mod lessons; // lessons.rt: lesson files
 mod spoken; // spoken.rt: calls and answers as plain numbers
 
 pub use lessons::{foliokettle_read, foliokettle_write};
+pub use spoken::{Handed, Plain};
 
 // DISTINCT over a view that belongs to no desk. Answers how many positions stand at the front of the list, or a refusal and its row.
 pub fn foliokettle_distinct(d: usize, view: &[u64], list: &mut [usize]) -> Plain
