@@ -24,7 +24,7 @@ use Rattle.refusals.proofs.Outcomes.{stands}
 use Rattle.refusals.proofs.TablesJudged.{TableRight}
 use Rattle.files.specs.declared.Lesson.TheVariants.{Read}
 use Rattle.files.specs.declared.Lesson.TheVariants as lesson
-use Rattle.files.specs.declared.Saved.TheVariants.{Length, Refused}
+use Rattle.files.specs.declared.Saved.TheVariants.{Length}
 use Rattle.files.specs.declared.NextRow.TheVariants.{Cell, NoMore}
 use Rattle.files.specs.Bytes.{big, in_bytes}
 use Rattle.files.specs.Files.{mark_in, version_in, values_in, count_in, row_in, cell_in, cells_in}

@@ -1,5 +1,5 @@
 -- Sets held in words act word by word, whatever the number of words: intersection, union and difference. Assumes nothing.
-use Prim.Native.Nat.{ℕ, zero, ◌+◌, ◌-◌, ◌/◌, ◌%◌, ◌^◌, ◌<◌}
+use Prim.Native.Nat.{ℕ, zero, ◌+◌, ◌/◌, ◌%◌, ◌^◌, ◌<◌}
 use mathlib.Core.Path.{◌≡◌, refl, sym, ap, ap₂, ◌∙◌}
 use mathlib.Core.List.{List, [], ◌∷◌}
 use native.Mathlib.Nat.{mod-lt, mod-eq_of_lt, suc_inj, zero-add}
@@ -8,7 +8,7 @@ use lib.Bits.{bit_and, bit_or, bit_xor, and_block, or_block, xor_block, and_mod,
 use lib.ListN.{length}
 use lib.Pow.{pow_pos, high, low}
 use Rattle.sets.specs.Limits.{word_bits}
-use Rattle.sets.specs.Sets.{union, minus, words}
+use Rattle.sets.specs.Sets.{minus, words}
 use Rattle.sets.specs.Words.{bits_of}
 use Rattle.sets.proofs.Words.{minus-words, words_less}
 

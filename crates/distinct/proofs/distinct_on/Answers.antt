@@ -9,8 +9,7 @@ use Rattle.distinct.proofs.distinct_on.Goals as goal
 pub returns : goal.returns
 unfolding kept
 returns c =
-    let o = c.list_positions in
-    (
+    let o = c.list_positions in (
       o.ensures.0 ∙ ap (λ (l : List Bool). length (positions 0 l)) c.settle.ensures,
       o.ensures.1 ∙ ap (λ (l : List Bool). positions 0 l ++ drop o.result c.args.list.now) c.settle.ensures,
     )

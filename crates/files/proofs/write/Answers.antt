@@ -1,21 +1,13 @@
 -- `write` meets its contract. Assumes nothing.
 use Prim.Native.Nat.{◌+◌, ◌*◌, ◌≤◌, ◌<◌}
-use mathlib.Core.Path.{refl, sym, ◌∙◌}
-use mathlib.Core.List.{List}
+use mathlib.Core.Path.{refl, sym}
 use native.Mathlib.Omega.{arith}
 use lib.ListN.{length}
 use Rattle.sets.specs.Limits.{most_rows}
-use Rattle.sets.specs.Rows.{rows_of}
-use Rattle.refusals.specs.Cases.{Case}
-use Rattle.refusals.specs.TableCases.{table_cases}
-use Rattle.refusals.proofs.Outcomes.{NoneApplies}
 use Rattle.refusals.proofs.TablesJudged.{judged_right, judged_refused, right_parts}
 use Rattle.files.proofs.Saving.{file_put}
 use Rattle.files.proofs.TablesSaved.{still_refused, short, saved}
 use Rattle.files.proofs.write.Goals as goal
-use Rattle.files.proofs.write.Lts as lts
-use Rattle.files.proofs.write.Tie as tie
-use Rattle.files.proofs.write.Reads as reads
 
 pub overflow_mul-length : goal.overflow_mul-length
 overflow_mul-length c = record { fits = omega (arith, (right_parts most_rows _ _ (judged_right _ (sym c.in-Right.ensures))).small, c.row_count-t.ensures) }

@@ -1,5 +1,4 @@
 -- `list_positions` meets its contract. The invariant: the positions of the marks before the next stand at the front. Assumes nothing.
-use Prim.Native.Nat.{◌-◌}
 use Rattle.distinct.proofs.Listing.{listed_start, listed_pass, listed_more}
 use Rattle.distinct.proofs.list.list_positions.Goals as goal
 

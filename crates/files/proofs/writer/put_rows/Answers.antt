@@ -1,5 +1,5 @@
 -- `put_rows` meets its contract. The invariant: the rows before the next stand behind the first 8 bytes. Assumes nothing.
-use Prim.Native.Nat.{◌-◌, ◌<◌}
+use Prim.Native.Nat.{◌<◌}
 use mathlib.Core.Path.{◌∙◌}
 use native.Mathlib.Omega.{arith}
 use lib.ListN.{length}

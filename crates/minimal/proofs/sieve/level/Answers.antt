@@ -1,6 +1,6 @@
 -- `minimal::level` meets its contract.
 -- The invariant: the rows of the chain before `place` are judged, and the tags are those of its minimal rows. Assumes nothing.
-use Prim.Native.Nat.{ℕ, ◌-◌, ◌≤◌, ◌<◌}
+use Prim.Native.Nat.{ℕ, ◌≤◌, ◌<◌}
 use mathlib.Core.Path.{◌≡◌, refl, ap, subst, ◌∙◌}
 use mathlib.Core.Logic.{inl, inr}
 use mathlib.Core.List.{List}
@@ -83,12 +83,11 @@ scanned c =
     (subst (Scanned r.result (rows_of l.loop-place.mins) q.result) same r.ensures)
 
 pub loop-place-init : goal.loop-place-init
-loop-place-init c =
-    (
-      walk_start c.requires.k_le_width.2 c.requires.k_le_width.0 c.requires.sieve,
-      tagged_start (rows_of c.args.mins.now) c.args.found c.args.k (replicate tag_words 0) refl,
-      refl,
-    )
+loop-place-init c = (
+  walk_start c.requires.k_le_width.2 c.requires.k_le_width.0 c.requires.sieve,
+  tagged_start (rows_of c.args.mins.now) c.args.found c.args.k (replicate tag_words 0) refl,
+  refl,
+)
 
 pub to_test-requires : goal.to_test-requires
 to_test-requires c =

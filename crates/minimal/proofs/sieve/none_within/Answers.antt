@@ -1,5 +1,4 @@
 -- `minimal::none_within` meets its contract. The invariant of both loops: each row before `next` has a value that x has not. Assumes nothing.
-use Prim.Native.Nat.{◌-◌}
 use mathlib.Core.Path.{sym, ◌∙◌}
 use native.Mathlib.Nat.{lt_of_lt_of_le}
 use native.Mathlib.Omega.{arith}

@@ -79,8 +79,7 @@ loop-head-smaller c = rest_row _ _ c.rest-left.ensures (some_left (looked (judge
 pub loop-head-preserved : goal.loop-head-preserved
 loop-head-preserved c =
     let low = looked (judged c.before).before in
-    let full = (start (chained low.before.before.before)).requires.rows_len_bound.1 in
-    (
+    let full = (start (chained low.before.before.before)).requires.rows_len_bound.1 in (
       level_judged c.loop-head.invariant.0 full c.lowest-k.ensures (lowest low).1 _ c.rest-left.ensures c.level-found.ensures,
       c.level-found.auto.mins ∙ c.loop-head.invariant.1,
     )

@@ -1,5 +1,5 @@
 -- `minimal::mark_singles` meets its contract. The invariant: the rows before `next` are passed. Assumes nothing.
-use Prim.Native.Nat.{ℕ, zero, ◌+◌, ◌<◌, ◌-◌}
+use Prim.Native.Nat.{ℕ, zero, ◌+◌, ◌<◌}
 use mathlib.Core.Path.{◌≡◌, sym, ap, ◌∙◌, subst}
 use mathlib.Core.Bool.{true}
 use native.Mathlib.Omega.{arith}

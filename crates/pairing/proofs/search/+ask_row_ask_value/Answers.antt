@@ -3,7 +3,7 @@ use borrow.Author.Rules.{rules}
 use mathlib.Core.Path.{◌≡◌, sym, ap, subst, ◌∙◌}
 use mathlib.Core.Bool.{true}
 use mathlib.Core.Logic.{◌≢◌}
-use Prim.Native.Nat.{ℕ, zero, suc, ◌+◌, ◌*◌, ◌-◌, ◌<◌}
+use Prim.Native.Nat.{ℕ, zero, suc, ◌-◌, ◌<◌}
 use native.Mathlib.Omega.{arith}
 use lib.Bits.{bit_or}
 use lib.Count.{count_leading_zeros}
@@ -13,7 +13,7 @@ use Rattle.sets.specs.Rows.{width, bits, rows_of}
 use Rattle.sets.proofs.Values.{with_new}
 use Rattle.sets.proofs.RowValues.{top_row, top_row_none}
 use Rattle.theory.specs.Pairings.{at}
-use Rattle.pairing.specs.Code.Asking.{unasked, Asks, OfRow}
+use Rattle.pairing.specs.Code.Asking.{unasked, Asks}
 use Rattle.pairing.proofs.AskSteps.{asked_there, asked_stored, row_takes, row_asks, row_moved, row_stays, turn_start}
 use Rattle.pairing.proofs.AskSteps.{turn_end, turn_row, turn_less, turn_falls, turn_pass, turn_found, turn_again}
 use Rattle.pairing.proofs.search.+ask_row_ask_value.Goals as goal
@@ -97,15 +97,17 @@ ask_value-ask_row-requires t c =
     let left = c.minus.ensures ∙ ap (minus (bits c.loop-heavy.left)) c.row_at-in-loop-heavy.ensures.0 in
     let next = next_row c.minus.result c.top-next.ensures c.if-next-eq0.false left in
     let holds = c.has.ensures ∙ ap (λ (x : ℕ). has x c.args.v) c.row_at-in-loop-heavy-2.ensures.0 in
-    let marked = asked_stored _ _ _ c.put_row.ensures (search rules) ∙ c.with-more.ensures ∙ ap (λ (x : ℕ). bit_or x (single (c.top-next.result - 1))) c.row_at-then-has.ensures.0 in
-    (omega (arith, turn_falls c.loop-heavy.invariant (c.top-next.result - 1) next.1 c.requires.few, ap (unasked width) marked), (
-      subst (Asks c.args.v (rows_of c.args.rows.now) (rows_of c.args.columns.now) (bits c.args.heavy)) (sym c.loop-heavy.invariant.stuck.still) c.requires,
+    let marked = asked_stored _ _ _ c.put_row.ensures (search rules) ∙ c.with-more.ensures ∙ ap (λ (x : ℕ). bit_or x (single (c.top-next.result - 1))) c.row_at-then-has.ensures.0 in (
+      omega (arith, turn_falls c.loop-heavy.invariant (c.top-next.result - 1) next.1 c.requires.few, ap (unasked width) marked),
       (
-        turn_row c.loop-heavy.invariant (c.top-next.result - 1) next.1,
-        sym holds ∙ c.if-has.true,
-        ap (λ (x : ℕ). has x (c.top-next.result - 1)) marked ∙ with_new (at (rows_of c.loop-heavy.asked) 0) (c.top-next.result - 1),
+        subst (Asks c.args.v (rows_of c.args.rows.now) (rows_of c.args.columns.now) (bits c.args.heavy)) (sym c.loop-heavy.invariant.stuck.still) c.requires,
+        (
+          turn_row c.loop-heavy.invariant (c.top-next.result - 1) next.1,
+          sym holds ∙ c.if-has.true,
+          ap (λ (x : ℕ). has x (c.top-next.result - 1)) marked ∙ with_new (at (rows_of c.loop-heavy.asked) 0) (c.top-next.result - 1),
+        ),
       ),
-    ))
+    )
 
 pub ask_value-returns-then-ask_row : goal.ask_value-returns-then-ask_row
 ask_value-returns-then-ask_row t c =

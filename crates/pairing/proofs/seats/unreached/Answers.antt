@@ -1,5 +1,4 @@
 -- `unreached` meets its contract. The invariant: the rows before the next have been looked at. Assumes nothing.
-use Prim.Native.Nat.{◌-◌}
 use mathlib.Core.Path.{sym, ◌∙◌}
 use borrow.Author.Rules.{rules}
 use Rattle.pairing.proofs.AskSteps.{asked_there}

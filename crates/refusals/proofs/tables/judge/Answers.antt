@@ -1,5 +1,5 @@
 -- `judge` meets its contract: the tests in the order of `table_cases`. Assumes nothing.
-use mathlib.Core.Path.{sym, ◌∙◌}
+use mathlib.Core.Path.{sym}
 use borrow.Author.Tests.{eq-eqb, ne_eqb, lt-ltb, le-ltb}
 use Rattle.refusals.specs.Cases.{decided}
 use Rattle.refusals.specs.TableCases.{table_cases}

@@ -1,5 +1,5 @@
 -- `sets::lent::bad_row` meets its contract. The invariant: the rows from i on decide. Assumes nothing.
-use Prim.Native.Nat.{ℕ, ◌≤◌, ◌<◌, ◌-◌}
+use Prim.Native.Nat.{ℕ, ◌≤◌, ◌<◌}
 use mathlib.Core.Path.{refl, sym, ap, ◌∙◌, subst}
 use native.Mathlib.Omega.{arith}
 use Rattle.sets.specs.Sets.{within}

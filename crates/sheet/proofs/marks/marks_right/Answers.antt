@@ -1,5 +1,4 @@
 -- `marks_right` meets its contract. The invariant: the words before the next have only rows that they may have. Assumes nothing.
-use Prim.Native.Nat.{◌-◌}
 use mathlib.Core.Path.{sym, ◌∙◌}
 use native.Mathlib.Numerals.{unary_clauses}
 use Rattle.sheet.proofs.Markings.{marked_wrong, marked_more, marked_all}

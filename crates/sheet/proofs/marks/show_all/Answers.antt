@@ -1,5 +1,5 @@
 -- `show_all` meets its contract. The invariant: the words before the next are empty. Assumes nothing.
-use Prim.Native.Nat.{ℕ, zero, ◌+◌, ◌*◌, ◌-◌}
+use Prim.Native.Nat.{ℕ, zero, ◌+◌, ◌*◌}
 use mathlib.Core.Path.{refl, ap}
 use mathlib.Core.List.{List}
 use native.Mathlib.Numerals.{unary_clauses}

@@ -1,5 +1,4 @@
 -- `rest_empty` meets its contract. The invariant: the places before the next are used, or have set 0 and owner 0. Assumes nothing.
-use Prim.Native.Nat.{◌-◌}
 use mathlib.Core.Path.{sym, ◌∙◌}
 use native.Mathlib.Omega.{arith}
 use borrow.Author.Rules.{rules}

@@ -1,5 +1,5 @@
 -- `close_up` meets its contract. The invariant: the places before the next are passed. Assumes nothing.
-use Prim.Native.Nat.{◌-◌, ◌<◌}
+use Prim.Native.Nat.{◌<◌}
 use native.Mathlib.Numerals.{unary_clauses}
 use native.Mathlib.Omega.{arith}
 use borrow.Author.Rules.{rules}

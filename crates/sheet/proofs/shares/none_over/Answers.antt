@@ -1,7 +1,5 @@
 -- `none_over` meets its contract. The invariant: no desk before the next holds more than it may. Assumes nothing.
-use Prim.Native.Nat.{◌-◌}
 use mathlib.Core.Path.{refl, sym}
-use mathlib.Core.Bool.{true}
 use native.Mathlib.Numerals.{unary_clauses}
 use native.Mathlib.Omega.{arith}
 use borrow.Author.Tests.{le-leb, lt-leb}

@@ -1,18 +1,12 @@
 -- `judge_change` meets its contract: each change is handed to its own part. Assumes nothing.
 use mathlib.Core.Path.{refl, ap, ◌∙◌}
 use native.Mathlib.Omega.{arith}
-use lib.ListN.{length}
 use borrow.Author.Rules.{rules}
-use Rattle.sets.specs.Rows.{rows_of}
-use Rattle.sheet.specs.Code.Surveys.{sheet_of}
 use Rattle.refusals.specs.Cases.{decided}
 use Rattle.store.specs.declared.Change.TheVariants.{Delete}
-use Rattle.store.proofs.Trusting.{Limits, limits}
+use Rattle.store.proofs.Trusting.{limits}
 use Rattle.store.proofs.Serving.{judged-take, judged_insert}
 use Rattle.store.proofs.desk.judge_change.Goals as goal
-use Rattle.store.proofs.desk.judge_change.Lts as lts
-use Rattle.store.proofs.desk.judge_change.Tie as tie
-use Rattle.store.proofs.desk.judge_change.Reads as reads
 
 pub delete_table-requires : goal.delete_table-requires
 delete_table-requires c =

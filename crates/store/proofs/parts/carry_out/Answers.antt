@@ -1,15 +1,9 @@
 -- `carry_out` meets its contract: the answer, and the change where one is accepted. Assumes nothing.
-use mathlib.Core.Path.{◌≡◌, sym, ◌∙◌}
-use mathlib.Core.Bool.{true}
+use mathlib.Core.Path.{sym, ◌∙◌}
 use Rattle.sets.specs.Rows.{rows_of}
-use Rattle.sheet.specs.declared.Sheet.{Sheet}
 use Rattle.sheet.specs.Code.Surveys.{sheet_of}
-use Rattle.store.specs.Answers.{accepted}
 use Rattle.store.proofs.Replying.{carried_refused, carried_accepted, carried_question}
 use Rattle.store.proofs.parts.carry_out.Goals as goal
-use Rattle.store.proofs.parts.carry_out.Lts as lts
-use Rattle.store.proofs.parts.carry_out.Tie as tie
-use Rattle.store.proofs.parts.carry_out.Reads as reads
 
 pub returns-then-not-accepted : goal.returns-then-not-accepted
 returns-then-not-accepted c =

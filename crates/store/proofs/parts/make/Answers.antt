@@ -1,6 +1,6 @@
 -- `make` meets its contract: each change is handed to what moves the marks or the places. Assumes nothing.
 use Prim.Native.Nat.{ℕ, suc, ◌<◌}
-use mathlib.Core.Path.{◌≡◌, refl, ap, ◌∙◌}
+use mathlib.Core.Path.{refl, ap, ◌∙◌}
 use mathlib.Core.List.{List}
 use native.Mathlib.Numerals.{unary_clauses}
 use native.Mathlib.Omega.{arith}
@@ -10,13 +10,9 @@ use Rattle.sets.specs.Limits.{most_places}
 use Rattle.sheet.specs.Code.Surveys.{sheet_of}
 use Rattle.sheet.proofs.PlaceRows.{place_rows}
 use Rattle.store.specs.declared.Change.TheVariants.{Delete}
-use Rattle.store.specs.declared.Target.TheVariants.{Table, Own}
 use Rattle.store.specs.Calls.{changed}
 use Rattle.store.proofs.Replying.{placed_out}
 use Rattle.store.proofs.parts.make.Goals as goal
-use Rattle.store.proofs.parts.make.Lts as lts
-use Rattle.store.proofs.parts.make.Tie as tie
-use Rattle.store.proofs.parts.make.Reads as reads
 
 pub put_row-requires : goal.put_row-requires
 put_row-requires c =

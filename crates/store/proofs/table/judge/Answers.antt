@@ -1,17 +1,12 @@
 -- `judge` meets its contract: what was judged of the table is told as a call's answer. Assumes nothing.
 use mathlib.Core.Path.{sym}
-use mathlib.Core.List.{List}
 use Rattle.sets.specs.Limits.{most_rows}
 use Rattle.sets.specs.Rows.{rows_of}
-use Rattle.refusals.specs.Cases.{Case}
 use Rattle.refusals.specs.TableCases.{table_cases}
 use Rattle.refusals.proofs.Outcomes.{stands, refuses}
 use Rattle.refusals.proofs.TablesJudged.{judged_right, judged_refused}
 use Rattle.store.specs.declared.Answer.TheVariants.{Done, Refused}
 use Rattle.store.proofs.table.judge.Goals as goal
-use Rattle.store.proofs.table.judge.Lts as lts
-use Rattle.store.proofs.table.judge.Tie as tie
-use Rattle.store.proofs.table.judge.Reads as reads
 
 pub returns-in-Right : goal.returns-in-Right
 returns-in-Right c =

@@ -1,5 +1,5 @@
 -- `put_own` meets its contract. The invariant: the desk's rows at the places before the next stand behind the first rows. Assumes nothing.
-use Prim.Native.Nat.{◌-◌, ◌<◌}
+use Prim.Native.Nat.{◌<◌}
 use mathlib.Core.Path.{◌≡◌}
 use mathlib.Core.Bool.{true}
 use native.Mathlib.Omega.{arith}
@@ -44,11 +44,10 @@ overflow_add-n c =
     record { fits = omega (arith, room c.before.before.before.before.before.before.before, c.loop-next.invariant.1.filled.long, c.requires.1) }
 
 pub loop-next-preserved-then-owners-i : goal.loop-next-preserved-then-owners-i
-loop-next-preserved-then-owners-i c =
-    (
-      omega (arith, c.loop-next-test.true),
-      gathered_more c.loop-next.invariant.1 (mine c.before.before.before.before.before.before.before) (room c.before.before.before.before.before.before.before) _ c.row_at.ensures.0 c.put_row.ensures,
-    )
+loop-next-preserved-then-owners-i c = (
+  omega (arith, c.loop-next-test.true),
+  gathered_more c.loop-next.invariant.1 (mine c.before.before.before.before.before.before.before) (room c.before.before.before.before.before.before.before) _ c.row_at.ensures.0 c.put_row.ensures,
+)
 
 pub loop-next-preserved : goal.loop-next-preserved
 loop-next-preserved c =

@@ -1,5 +1,5 @@
 -- `put_table` meets its contract. The invariant: the table rows before the next that the desk does not hide stand at the front. Assumes nothing.
-use Prim.Native.Nat.{ℕ, ◌-◌, ◌<◌}
+use Prim.Native.Nat.{ℕ, ◌<◌}
 use mathlib.Core.Path.{◌≡◌, sym, ap, ◌∙◌}
 use mathlib.Core.Bool.{Bool, true, not}
 use native.Mathlib.Omega.{arith}
@@ -44,11 +44,10 @@ overflow_add-n c =
     record { fits = omega (arith, room c.before.before.before.before.before.before, c.loop-next.invariant.1.filled.long, c.requires.2) }
 
 pub loop-next-preserved-then-not-hidden : goal.loop-next-preserved-then-not-hidden
-loop-next-preserved-then-not-hidden c =
-    (
-      omega (arith, c.loop-next-test.true),
-      gathered_more c.loop-next.invariant.1 (shown c.before.before.before.before.before.before) (room c.before.before.before.before.before.before) _ c.row_at.ensures.0 c.put_row.ensures,
-    )
+loop-next-preserved-then-not-hidden c = (
+  omega (arith, c.loop-next-test.true),
+  gathered_more c.loop-next.invariant.1 (shown c.before.before.before.before.before.before) (room c.before.before.before.before.before.before) _ c.row_at.ensures.0 c.put_row.ensures,
+)
 
 pub loop-next-preserved : goal.loop-next-preserved
 loop-next-preserved c =
