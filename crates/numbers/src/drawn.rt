@@ -1,6 +1,8 @@
 // A lesson of calls that nobody has thought out: five desks call in a class of four, for rows and sets that are there or not.
 use sheet::Sheet;
 use show::{Tally, say};
+use std::io;
+use std::io::Write;
 use turns::{Plain, Turn};
 
 const TURNS: usize = 900;
@@ -46,8 +48,8 @@ fn drawn(i: usize) -> Turn {
 
 // Three times the sum and a number more, in 64 bits: no number told can be changed without changing it.
 fn mixed(sum: u64, n: u64) -> u64 {
-    let twice = std::num::wrapping_add_u64(sum, sum);
-    std::num::wrapping_add_u64(std::num::wrapping_add_u64(twice, sum), n)
+    let twice = sum.wrapping_add(sum);
+    twice.wrapping_add(sum).wrapping_add(n)
 }
 
 fn mixed_in(sum: u64, told: Plain) -> u64 {
@@ -95,15 +97,16 @@ fn begin(told: Tally) -> Lesson {
     }
 }
 
-fn report(accepted: Tally, sum: u64) {
+fn report(out: &mut impl Write, accepted: Tally, sum: u64) -> io::Result<()> {
     say(
+        out,
         b"\nA lesson of 900 turns that nobody has thought out: # accepted, # refused. What is told comes to #.\n",
         &[accepted.agree as u64, accepted.differ as u64, sum],
-    );
+    )
 }
 
 // All turns.
-pub fn play(start: Tally) -> Tally {
+pub fn play(out: &mut impl Write, start: Tally) -> io::Result<Tally> {
     let mut lesson = begin(start);
     let mut next: usize = 0;
     while next < TURNS {
@@ -112,6 +115,6 @@ pub fn play(start: Tally) -> Tally {
         lesson = play_turn(lesson, i);
     }
     let accepted = lesson.accepted;
-    report(accepted, lesson.sum);
-    lesson.told
+    report(out, accepted, lesson.sum)?;
+    Ok(lesson.told)
 }

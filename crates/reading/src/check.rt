@@ -3,6 +3,8 @@ ghost use Rattle.std.specs.Prelude.{◌≤◌};
 
 use files::{Lesson, NextRow};
 use show::{say, text};
+use std::io;
+use std::io::Write;
 
 // What stands in the list before the call, to see what is written.
 const BEFORE: u64 = 77;
@@ -10,7 +12,7 @@ const BEFORE: u64 = 77;
 const PLACES: usize = 300;
 
 // What an answer says: the refusal number or 0, the row number, d and T.
-#[derive(Drop)]
+#[derive(Clone, Copy)]
 pub struct Said {
     pub refusal: u64,
     pub row: u64,
@@ -97,15 +99,15 @@ fn turns_right(file: &[u8], cells: &[u64]) -> bool {
 }
 
 // The answer in words.
-fn tell(answer: Said) {
+fn tell(out: &mut impl Write, answer: Said) -> io::Result<()> {
     if answer.refusal == 0 {
-        say(b"d #, # rows", &[answer.d, answer.rows]);
-        return;
+        return say(out, b"d #, # rows", &[answer.d, answer.rows]);
     }
-    say(b"refused with #", &[answer.refusal]);
+    say(out, b"refused with #", &[answer.refusal])?;
     if answer.refusal == 26 {
-        say(b" at row #", &[answer.row]);
+        say(out, b" at row #", &[answer.row])?;
     }
+    Ok(())
 }
 
 // How many places are lent: as many as asked for, where there are so many.
@@ -127,23 +129,28 @@ fn right(ours: Said, must: Said, list: &[u64; PLACES], file: &[u8], cells: &[u64
 }
 
 // Whether it came right, and the answer where it did not.
-fn conclude(right: bool, ours: Said) {
+fn conclude(out: &mut impl Write, right: bool, ours: Said) -> io::Result<()> {
     if right {
-        text(b" - as it should\n");
-        return;
+        return text(out, b" - as it should\n");
     }
-    text(b" - DIFFERS: ");
-    tell(ours);
-    text(b"\n");
+    text(out, b" - DIFFERS: ")?;
+    tell(out, ours)?;
+    text(out, b"\n")
 }
 
 // Says what must be answered, and whether all of it came.
-pub fn check(file: &[u8], places: usize, must: Said, cells: &[u64]) -> bool {
-    tell(must);
+pub fn check(
+    out: &mut impl Write,
+    file: &[u8],
+    places: usize,
+    must: Said,
+    cells: &[u64],
+) -> io::Result<bool> {
+    tell(out, must)?;
     let mut list = [BEFORE; PLACES];
     let n = lent(places);
     let ours = heard(files::read(file, &mut list[0..n]));
     let right = right(ours, must, &list, file, cells);
-    conclude(right, ours);
-    right
+    conclude(out, right, ours)?;
+    Ok(right)
 }

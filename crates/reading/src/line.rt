@@ -7,6 +7,8 @@ ghost use Rattle.std.specs.Prelude.{◌≤◌};
 use crate::check;
 use crate::check::Said;
 use show::{Tally, text, texts};
+use std::io;
+use std::io::Write;
 
 // As long as a file of 257 rows with all their bytes, and one more.
 const LONGEST: usize = 2065;
@@ -44,7 +46,7 @@ fn glued() -> [u8; LONGEST] {
 
 // The file of the numbers. Where they say nothing else, it is the request's with its bytes as they are, whole and alone, and the list has a place
 // for every row.
-fn trial(text: &[u8]) -> bool {
+fn trial(out: &mut impl Write, text: &[u8]) -> io::Result<bool> {
     let mut row = [0, 80, 0, 80, 0, 0, 0, 0, 0, 32, 300, 0, 0, 0, 0];
     let filled = texts::numbers(text, &mut row);
     let file = changed(changed(glued(), row[0], row[1]), row[2], row[3]);
@@ -57,6 +59,7 @@ fn trial(text: &[u8]) -> bool {
     let length = row[9] as usize;
     let places = row[10] as usize;
     check::check(
+        out,
         texts::front(&file, length),
         places,
         must,
@@ -64,12 +67,12 @@ fn trial(text: &[u8]) -> bool {
     )
 }
 
-pub fn play(tally: Tally, line: &[u8]) -> Tally {
+pub fn play(out: &mut impl Write, tally: Tally, line: &[u8]) -> io::Result<Tally> {
     let bar = texts::find(line, 0, texts::BAR);
-    text(&line[0..bar]);
+    text(out, &line[0..bar])?;
     if bar == line.len() {
-        text(b"\n");
-        return tally;
+        text(out, b"\n")?;
+        return Ok(tally);
     }
-    tally.count(trial(&line[bar..]))
+    Ok(tally.count(trial(out, &line[bar..])?))
 }

@@ -3,6 +3,8 @@ ghost use Rattle.std.specs.Prelude.{◌≤◌};
 
 use files::{Lesson, Saved};
 use show::{say, text};
+use std::io;
+use std::io::Write;
 
 // What stands in the buffer before the call, to see what is written.
 const BEFORE: u8 = 77;
@@ -17,7 +19,7 @@ const LONG_FILE: u64 = 29;
 pub const ROWS: usize = 257;
 
 // What an answer says: the refusal number or 0, the row number, and the file's length.
-#[derive(Drop)]
+#[derive(Clone, Copy)]
 pub struct Said {
     pub refusal: u64,
     pub row: u64,
@@ -132,15 +134,15 @@ fn read_alone(buffer: &[u8], length: u64, d: usize, table: &[u64]) -> bool {
 }
 
 // The answer in words.
-fn tell(answer: Said) {
+fn tell(out: &mut impl Write, answer: Said) -> io::Result<()> {
     if answer.refusal == 0 {
-        say(b"# bytes", &[answer.length]);
-        return;
+        return say(out, b"# bytes", &[answer.length]);
     }
-    say(b"refused with #", &[answer.refusal]);
+    say(out, b"refused with #", &[answer.refusal])?;
     if answer.refusal == 2 {
-        say(b" at row #", &[answer.row]);
+        say(out, b" at row #", &[answer.row])?;
     }
+    Ok(())
 }
 
 // How many bytes are lent: as many as asked for, where there are so many.
@@ -176,29 +178,35 @@ fn right(
 }
 
 // Whether it came right, and the answer where it did not.
-fn conclude(right: bool, ours: Said) {
+fn conclude(out: &mut impl Write, right: bool, ours: Said) -> io::Result<()> {
     if right {
-        text(b" - as it should\n");
-        return;
+        return text(out, b" - as it should\n");
     }
-    text(b" - DIFFERS: ");
-    tell(ours);
-    text(b"\n");
+    text(out, b" - DIFFERS: ")?;
+    tell(out, ours)?;
+    text(out, b"\n")
 }
 
 // Says what must be answered, and whether all of it came.
-pub fn check(d: usize, table: &[u64], room: usize, must: Said, bytes: &[u64]) -> bool {
-    tell(must);
+pub fn check(
+    out: &mut impl Write,
+    d: usize,
+    table: &[u64],
+    room: usize,
+    must: Said,
+    bytes: &[u64],
+) -> io::Result<bool> {
+    tell(out, must)?;
     let mut buffer = [BEFORE; ROOM];
     let n = lent(room);
     let ours = heard(files::write(d, table, &mut buffer[0..n]));
     let right = right(ours, must, &buffer, bytes, d, table);
-    conclude(right, ours);
-    right
+    conclude(out, right, ours)?;
+    Ok(right)
 }
 
 // A file, read and written again, must give these bytes.
-pub fn check_file(file: &[u8], bytes: &[u64]) -> bool {
+pub fn check_file(out: &mut impl Write, file: &[u8], bytes: &[u64]) -> io::Result<bool> {
     let mut list = [0u64; ROWS];
     let lesson = files::read(file, &mut list);
     match lesson {
@@ -208,23 +216,23 @@ pub fn check_file(file: &[u8], bytes: &[u64]) -> bool {
                 row: 0,
                 length: bytes.len() as u64,
             };
-            check(d, show::part(&list, 0, rows), ROOM, must, bytes)
+            check(out, d, show::part(&list, 0, rows), ROOM, must, bytes)
         }
         Lesson::Refused(_) => {
-            text(b"DIFFERS: not read\n");
-            false
+            text(out, b"DIFFERS: not read\n")?;
+            Ok(false)
         }
     }
 }
 
 // A file must be refused with this number.
-pub fn check_refused(file: &[u8], number: u64) -> bool {
-    say(b"refused with #", &[number]);
+pub fn check_refused(out: &mut impl Write, file: &[u8], number: u64) -> io::Result<bool> {
+    say(out, b"refused with #", &[number])?;
     let ours = refusal_of(file);
     if ours == number {
-        text(b" - as it should\n");
-        return true;
+        text(out, b" - as it should\n")?;
+        return Ok(true);
     }
-    say(b" - DIFFERS: #\n", &[ours]);
-    false
+    say(out, b" - DIFFERS: #\n", &[ours])?;
+    Ok(false)
 }

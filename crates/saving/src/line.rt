@@ -7,6 +7,8 @@
 use crate::check;
 use crate::check::{ROWS, Said};
 use show::{Tally, text, texts};
+use std::io;
+use std::io::Write;
 
 // The number after an = stands in this column.
 const REFUSAL: usize = 4;
@@ -27,7 +29,7 @@ fn rows(set: u64, row: u64, other: u64) -> [u64; ROWS] {
 }
 
 // The table of the numbers. Where they say nothing else, all rows are the same and the buffer takes any file.
-fn trial(text: &[u8]) -> bool {
+fn trial(out: &mut impl Write, text: &[u8]) -> io::Result<bool> {
     let mut row = [0u64; BYTES + MOST];
     row[3] = 257;
     row[9] = 2100;
@@ -39,6 +41,7 @@ fn trial(text: &[u8]) -> bool {
         length: row[6],
     };
     check::check(
+        out,
         row[0] as usize,
         show::part(&table, 0, row[1] as usize),
         row[9] as usize,
@@ -60,7 +63,7 @@ fn bytes(numbers: &[u64; MOST]) -> [u8; MOST] {
 }
 
 // A file that is read and written again, or refused.
-fn file_trial(text: &[u8], must: &[u8], refused: bool) -> bool {
+fn file_trial(out: &mut impl Write, text: &[u8], must: &[u8], refused: bool) -> io::Result<bool> {
     let mut numbers = [0u64; MOST];
     let length = texts::numbers(text, &mut numbers);
     let file = bytes(&numbers);
@@ -68,27 +71,27 @@ fn file_trial(text: &[u8], must: &[u8], refused: bool) -> bool {
     let filled = texts::numbers(must, &mut wanted);
     let file = texts::front(&file, length);
     if refused {
-        return check::check_refused(file, wanted[REFUSAL]);
+        return check::check_refused(out, file, wanted[REFUSAL]);
     }
-    check::check_file(file, show::part(&wanted, 0, filled))
+    check::check_file(out, file, show::part(&wanted, 0, filled))
 }
 
-pub fn play(tally: Tally, line: &[u8]) -> Tally {
+pub fn play(out: &mut impl Write, tally: Tally, line: &[u8]) -> io::Result<Tally> {
     let bar = texts::find(line, 0, texts::BAR);
     if bar < line.len() {
-        text(&line[0..bar]);
-        return tally.count(trial(&line[bar..]));
+        text(out, &line[0..bar])?;
+        return Ok(tally.count(trial(out, &line[bar..])?));
     }
     let file = texts::find(line, 0, b'<');
-    text(&line[0..file]);
+    text(out, &line[0..file])?;
     if file == line.len() {
-        text(b"\n");
-        return tally;
+        text(out, b"\n")?;
+        return Ok(tally);
     }
     let refusal = texts::find(line, file, b'=');
     if refusal < line.len() {
-        return tally.count(file_trial(&line[file..refusal], &line[refusal..], true));
+        return Ok(tally.count(file_trial(out, &line[file..refusal], &line[refusal..], true)?));
     }
     let again = texts::find(line, file, b'>');
-    tally.count(file_trial(&line[file..again], &line[again..], false))
+    Ok(tally.count(file_trial(out, &line[file..again], &line[again..], false)?))
 }

@@ -7,10 +7,13 @@ use crate::{doors, neighbour, script, words};
 use sheet::Sheet;
 use show::texts::BAR;
 use show::{Tally, say, text, texts};
+use std::alloc::Global;
+use std::io;
+use std::io::Write;
 
 // How the class stands: its sheet, how often a desk was told what it must be, and how often the neighbour was; and where the lines of the lent
 // table and of the neighbour's questions begin.
-#[derive(Drop)]
+#[derive(Clone, Copy)]
 struct Class {
     sheet: Sheet,
     told: Tally,
@@ -33,20 +36,20 @@ fn at_time(turn: Turn, i: usize) -> Turn {
         now.kind = (i % 7) as u64;
     }
     if turn.each != 0 {
-        now.desk = std::num::wrapping_add_usize(turn.desk, i / turn.each);
+        now.desk = turn.desk.wrapping_add(i / turn.each);
     }
     now
 }
 
 // What came instead of what must.
-fn complain(kind: u64, told: Plain) {
-    text(b" - DIFFERS: told ");
-    words::tell(kind, told);
-    text(b", or the list or the sheet is not as it must be");
+fn complain(out: &mut impl Write, kind: u64, told: Plain) -> io::Result<()> {
+    text(out, b" - DIFFERS: told ")?;
+    words::tell(out, kind, told)?;
+    text(out, b", or the list or the sheet is not as it must be")
 }
 
 // A turn that is played once.
-fn play_once(class: Class, script: &[u8], turn: Turn) -> Class {
+fn play_once(out: &mut impl Write, class: Class, script: &[u8], turn: Turn) -> io::Result<Class> {
     let table = script::table_at(script, class.table);
     let rows = table.rows;
     let sheet = class.sheet;
@@ -57,13 +60,13 @@ fn play_once(class: Class, script: &[u8], turn: Turn) -> Class {
     let mut next = class;
     next.told = counted;
     if !outcome.right {
-        complain(turn.kind, came);
+        complain(out, turn.kind, came)?;
     }
     if came.refusal == 0 && turn.spot == 0 {
         let after = outcome.sheet;
         next.sheet = after;
     }
-    next
+    Ok(next)
 }
 
 // The neighbour looks, once she has questions.
@@ -79,51 +82,52 @@ fn look(class: Class, script: &[u8]) -> Class {
 }
 
 // A turn that is played as often as it says, and the neighbour who looks after each time.
-fn act(class: Class, script: &[u8], turn: Turn) -> Class {
+fn act(out: &mut impl Write, class: Class, script: &[u8], turn: Turn) -> io::Result<Class> {
     let mut class = class;
     let mut next: usize = 0;
     while next < turn.times {
         let now = at_time(turn, next);
         next += 1;
-        class = look(play_once(class, script, now), script);
+        class = look(play_once(out, class, script, now)?, script);
     }
-    class
+    Ok(class)
 }
 
 // What must be told, and how often.
-fn announce(turn: Turn) {
+fn announce(out: &mut impl Write, turn: Turn) -> io::Result<()> {
     let must = turn.must;
-    words::tell(turn.kind, must);
+    words::tell(out, turn.kind, must)?;
     if 1 < turn.times {
-        say(b", # times", &[turn.times as u64]);
+        say(out, b", # times", &[turn.times as u64])?;
     }
-    text(b".");
+    text(out, b".")
 }
 
 // What the neighbour says, once she has questions.
-fn hear(class: Class, script: &[u8]) {
+fn hear(out: &mut impl Write, class: Class, script: &[u8]) -> io::Result<()> {
     let looks = class.looks;
     if class.questions < script.len() {
-        neighbour::says(looks);
+        neighbour::says(out, looks)?;
     }
+    Ok(())
 }
 
 // A line's words, and its turn where it has one.
-fn read_out(class: Class, script: &[u8], line: &[u8]) -> Class {
+fn read_out(out: &mut impl Write, class: Class, script: &[u8], line: &[u8]) -> io::Result<Class> {
     let bar = texts::find(line, 0, BAR);
-    text(&line[0..bar]);
+    text(out, &line[0..bar])?;
     if bar == line.len() {
-        return class;
+        return Ok(class);
     }
     let turn = script::read_turn(&line[bar..]);
-    announce(turn);
-    let after = act(class, script, turn);
-    hear(after, script);
-    after
+    announce(out, turn)?;
+    let after = act(out, class, script, turn)?;
+    hear(out, after, script)?;
+    Ok(after)
 }
 
 // The line at a place of the script.
-fn line_at(class: Class, script: &[u8], at: usize) -> Class
+fn line_at(out: &mut impl Write, class: Class, script: &[u8], at: usize) -> io::Result<Class>
     requires { at < length script.now }
 {
     let mark = script[at];
@@ -134,15 +138,15 @@ fn line_at(class: Class, script: &[u8], at: usize) -> Class
         NO_QUESTIONS => next.questions = script.len(),
         QUESTION => {}
         _ => {
-            next = read_out(class, script, script::line_at(script, at));
-            text(b"\n");
+            next = read_out(out, class, script, script::line_at(script, at))?;
+            text(out, b"\n")?;
         }
     }
-    next
+    Ok(next)
 }
 
 // All lines of the script.
-fn play_lines(script: &[u8]) -> Score {
+fn play_lines(out: &mut impl Write, script: &[u8]) -> io::Result<Score> {
     let mut class = Class {
         sheet: Sheet::fresh(0, 0, 0),
         told: Tally::fresh(),
@@ -154,16 +158,15 @@ fn play_lines(script: &[u8]) -> Score {
     while next < script.len() {
         let at = next;
         next = script::after(script, at);
-        class = line_at(class, script, at);
+        class = line_at(out, class, script, at)?;
     }
     let told = class.told;
     let looks = class.looks;
-    Score { told, looks }
+    Ok(Score { told, looks })
 }
 
 // The script on standard input.
-pub fn play() -> Score {
-    let mut script = io::large_buffer();
-    let n = io::read_full(0, &mut script);
-    play_lines(&script[..n])
+pub fn play(out: &mut impl Write, rt: &impl Input, alloc: Global) -> io::Result<Score> {
+    let script = show::script(rt, alloc)?;
+    play_lines(out, &script)
 }

@@ -1,4 +1,6 @@
 // Lessons by script: each line is a turn and what must be told, and each turn is played through every door of the store.
+#![tactic(auto)]
+
 mod damage; // damage.rt: a sheet with one number changed
 mod doors; // doors.rt: the doors of the store, each by plain numbers
 mod lesson; // lesson.rt: a script from its first line to its last

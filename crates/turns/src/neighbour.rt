@@ -6,6 +6,8 @@ use crate::script::QUESTION;
 use crate::trial::once;
 use sheet::Sheet;
 use show::{Tally, text, texts};
+use std::io;
+use std::io::Write;
 
 // The line at `from` has her table, and the lines after it, while they are questions, are her turns. She asks some, and each is told what it must be.
 pub fn asks(script: &[u8], from: usize, sheet: Sheet) -> bool
@@ -32,17 +34,17 @@ pub fn asks(script: &[u8], from: usize, sheet: Sheet) -> bool
 }
 
 // What she says of it, in a different way each time.
-pub fn says(looks: Tally) {
+pub fn says(out: &mut impl Write, looks: Tally) -> io::Result<()> {
     if looks.differ != 0 {
-        text(b" LENA'S ROWS HAVE CHANGED.");
-        return;
+        return text(out, b" LENA'S ROWS HAVE CHANGED.");
     }
     texts::say_line(
+        out,
         b" Lena: no change.
  Lena: all there.
  Lena: as before.
  Lena: the same rows.",
         (looks.agree % 4) as u64,
         &[],
-    );
+    )
 }

@@ -20,7 +20,7 @@ pub const QUESTION: u8 = b'>';
 pub const NO_QUESTIONS: u8 = b'!';
 
 // What a desk is told: the refusal number or 0, the values of the answer, and the positions listed.
-#[derive(Drop)]
+#[derive(Clone, Copy)]
 pub struct Plain {
     pub refusal: u64,
     pub first: u64,
@@ -28,7 +28,7 @@ pub struct Plain {
     pub kept: u64,
 }
 
-#[derive(Drop)]
+#[derive(Clone, Copy)]
 pub struct Turn {
     pub kind: u64,
     pub desk: usize,

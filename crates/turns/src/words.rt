@@ -2,10 +2,13 @@
 use crate::doors::{COUNT, DISTINCT, LOOK};
 use crate::script::Plain;
 use show::{Names, say, text, texts};
+use std::io;
+use std::io::Write;
 
 // A refusal by its number, refusal 2 with its row, and why, as one would tell it to a pupil.
-fn tell_refusal(told: Plain) {
+fn tell_refusal(out: &mut impl Write, told: Plain) -> io::Result<()> {
     texts::say_line(
+        out,
         b"done
 refused with # (no table has that size)
 refused with # at row # (that is no row)
@@ -23,28 +26,32 @@ refused with # (a class has 1 to 32 desks)
 refused with #",
         told.refusal,
         &[told.refusal, told.first],
-    );
+    )
 }
 
 // How many rows DISTINCT keeps, and where.
-fn tell_kept(told: Plain) {
-    say(b"# kept", &[told.first]);
+fn tell_kept(out: &mut impl Write, told: Plain) -> io::Result<()> {
+    say(out, b"# kept", &[told.first])?;
     if told.kept != 0 {
-        text(b", at");
-        show::positions(told.kept);
+        text(out, b", at")?;
+        show::positions(out, told.kept)?;
     }
+    Ok(())
 }
 
 // What a call of this kind is told.
-pub fn tell(kind: u64, told: Plain) {
+pub fn tell(out: &mut impl Write, kind: u64, told: Plain) -> io::Result<()> {
     if told.refusal != 0 {
-        tell_refusal(told);
-        return;
+        return tell_refusal(out, told);
     }
     match kind {
-        LOOK => show::row(Names::Letters, told.first),
-        COUNT => say(b"# rows in view, # of them own", &[told.first, told.second]),
-        DISTINCT => tell_kept(told),
-        _ => text(b"done"),
+        LOOK => show::row(out, Names::Letters, told.first),
+        COUNT => say(
+            out,
+            b"# rows in view, # of them own",
+            &[told.first, told.second],
+        ),
+        DISTINCT => tell_kept(out, told),
+        _ => text(out, b"done"),
     }
 }
