@@ -37,3 +37,10 @@ compile() { "$compiler" -std=c11 -O2 -Wall -Wextra -pedantic "$@"; }
 # On another processor everything is linked statically, for the emulator.
 static=''
 [ -z "$emulator" ] || static=-static
+
+# Proves the store, and puts the library for hosts in C where they link it from.
+prove_library() {
+    (cd crates/host_c && rt lib)
+    mkdir -p target/staticlib
+    cp crates/host_c/out/libhost_c.a target/staticlib/libhost.a
+}

@@ -1,5 +1,5 @@
-/* The store for hosts in C and C++: what `rt staticlib host` puts into libhost.a (crate `host`), which is for x86-64
-   Linux and wants nothing but memcpy and memset. docs/HANDBOOK.md tells what the calls do.
+/* The store for hosts in C and C++: what `rt lib` makes of crates/host_c, an archive for x86-64 Linux
+   that wants nothing but memcpy and memset. docs/HANDBOOK.md tells what the calls do.
 
    What a host has to see to:
    - Pointers are valid for their lengths, which count elements; NULL will do where the length is 0. What is lent to one
@@ -32,7 +32,7 @@ enum {
     FOLIOKETTLE_FILE = 8 + 8 * FOLIOKETTLE_ROWS                /* bytes of a lesson file: so many do for any table */
 };
 
-/* Bytes of stack that are enough for any call. 60 KB were measured; `bench/run stack` measures again. */
+/* Bytes of stack that are enough for any call. 62 KB were measured; `bench/run stack` measures again. */
 #define FOLIOKETTLE_STACK (128 * 1024)
 
 /* The class sheet. `foliokettle_begin` makes it; then it is handed in and handed back, or altered in place. A set is a
