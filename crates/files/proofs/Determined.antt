@@ -50,7 +50,7 @@ write_determined = record {
       λ i. (same i, bytes i);
 }
 
--- ---- the functions that are proved by hand
+-- ---- the reader's functions, by the clauses of their contracts
 
 -- `Reader::new`: a reader of the slice lent, before the first row
 abbrev pub Makes : (κs : Lfts 1) → Args new.signature κs → Res new.signature κs → AtExit new.ended κs → Type 0

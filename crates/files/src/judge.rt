@@ -24,6 +24,7 @@ fn judge_rows(file: &[u8], d: usize, t: usize) -> Lesson
 }
 
 // d and T, or the refusal that is first in their order.
+#[tactic(auto, unfolding(crate::specs::Reading::judged, crate::specs::FileCases::front_cases, refusals::specs::Cases::decided))]
 pub fn judge(file: &[u8]) -> Lesson
     ensures { result ≡ judged file.now }
 {

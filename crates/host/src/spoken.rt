@@ -32,6 +32,7 @@ pub enum Asked {
 }
 
 // The call of a kind and its argument.
+#[tactic(auto, unfolding(crate::specs::Spoken::asked_by))]
 pub fn heard(kind: u64, n: u64) -> Asked
     ensures { result ≡ asked_by kind n }
 {

@@ -4,15 +4,17 @@ use Prim.Native.Nat.{ℕ, zero, ◌-◌, ◌/◌, ◌%◌, ◌^◌, ◌<◌, ◌
 use mathlib.Core.Path.{◌≡◌, sym, subst}
 use mathlib.Core.Logic.{◌≢◌}
 use mathlib.Core.Bool.{true}
-use native.Mathlib.Nat.{zero-lt-suc, mod-lt}
+use native.Mathlib.Nat.{zero-lt-suc, mod-lt, lt_of_lt_of_le}
 use native.Mathlib.Omega.{arith}
 use lib.Bits.{bit_xor}
+use lib.Pow.{pow_mono}
 use lib.Count.{ones, ones-le, count_trailing_zeros, count_leading_zeros}
 use Rattle.sets.specs.declared.Row.{Row}
 use Rattle.sets.specs.Limits.{word_bits}
-use Rattle.sets.specs.Sets.{has, single, minus}
+use Rattle.sets.specs.Sets.{has, single, minus, below}
 use Rattle.sets.specs.Rows.{row_words, width, words_of, bits, as_row, tag_of}
 use Rattle.sets.proofs.Subsets.{without_less}
+use Rattle.sets.proofs.ValuesBelow.{less_below}
 use Rattle.sets.proofs.Extremes.{lowest_has, top_has, top_none}
 use Rattle.sets.proofs.OneWord.{word_bits_lem, word_again}
 use Rattle.sets.proofs.RowsInWords.{take_less}
@@ -20,6 +22,10 @@ use Rattle.sets.proofs.RowsInWords.{take_less}
 pub bits_less : (r : Row) → bits r < 2 ^ width
 unfolding bits words_of
 bits_less r = take_less row_words (words_of r)
+
+-- so it is within any column that has as many values
+pub below_wide : (r : Row) (d : ℕ) → width ≤ d → below d (bits r) ≡ true
+below_wide r d h = less_below d (bits r) (lt_of_lt_of_le (bits_less r) (pow_mono h))
 
 -- a set that a row can hold is held by its row, and a row's set is the set of that very row
 pub row-bits : (n : ℕ) → n < 2 ^ width → bits (as_row n) ≡ n

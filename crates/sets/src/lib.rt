@@ -193,6 +193,7 @@ pub fn subset(a: Row, b: Row) -> bool
 }
 
 // No value d or above.
+#[tactic(auto, using(crate::proofs::ValuesBelow::below_all, crate::proofs::RowValues::below_wide))]
 pub fn below(row: Row, d: usize) -> bool
     ensures { result ≡ below d (bits row) }
 {

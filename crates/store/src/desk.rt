@@ -66,6 +66,7 @@ fn delete_own(held: usize, n: usize) -> Answer
 }
 
 // A row is put in; `full` where every free place is owed.
+#[tactic(auto, unfolding(refusals::specs::Cases::decided))]
 fn insert(d: usize, full: bool, held: usize, row: Row) -> Answer
     requires { d ≤ most_values }
     ensures { result ≡ decided Refused (insert_cases d full held (bits row)) Done }

@@ -21,8 +21,8 @@ pub record Public (n : ℕ) (ps : List (ParamKind n)) (r : ResultKind n) (asked 
   pub determined : (κs : Lfts n) (a : Dens κs ps) (z z' : (res_t r κs).Denot) (e e' : AtExit (ended_of n ps r) κs)
       → post κs a z e → post κs a z' e' → seen κs z e ≡ seen κs z' e'
 
--- The contract of a function that is proved by hand has no plain form of its own. This says which it has: it asks nothing, and ensures that
--- `says` holds of the arguments, the result and what was lent, whatever the logic stands on.
+-- The same of a contract as its clauses stand in the logic: it asks nothing, and ensures that `says` holds of the arguments, the result and what
+-- was lent, whatever the logic stands on.
 pub record Contract (T : Ended)
     (clauses : (M : Type 1) (𝓤 : Ura M) (𝓛 : Logic 𝓤) → (Memory → SProp 𝓤) → (Routine → Fun 𝓤) → Clauses 𝓤 T)
     (says : (κs : Lfts T.signature.lifetimes) → Args T.signature κs → Res T.signature κs → AtExit T κs → Type 0) : Type 3 where

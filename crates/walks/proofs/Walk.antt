@@ -1,4 +1,4 @@
--- What the proofs by hand cite of the logic, so that each of them has one line for it.
+-- What proofs by hand would cite of the logic, so that each of them has one line for it.
 pub use mathlib.Core.Path.{◌≡◌, refl, ap}
 pub use Prim.Native.Nat.{ℕ, ◌<◌, ◌^◌}
 pub use mathlib.Core.List.{[], ◌∷◌, List}

@@ -1,2 +1,2 @@
-// Nothing to run: laws for the proofs that are done by hand.
+// Nothing to run: what it is to be a public call, and laws for proofs by hand, of which there are none now.
 #![tactic(auto)]

@@ -1,0 +1,2 @@
+-- `AsHost`: what C links promises what `host` promises.
+pub mod AsHost
