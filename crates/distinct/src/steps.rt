@@ -8,6 +8,7 @@ ghost use Rattle.pairing.specs.Code.Seats.{seats};
 ghost use Rattle.distinct.specs.Code.Steps.{InColumn, Places, Pairs, offered, marks_then};
 
 use pairing::seats::Seating;
+use sets::Row;
 
 // A row that has a mate sits on a seat, and there are no more mates than values.
 pub const SEATS: usize = sets::VALUES;
@@ -31,7 +32,7 @@ fn offer_seats(
     let n = sets::row_count(view);
     let mut next: usize = 0;
     while next < n {
-        if sets::is_empty(seats.free) {
+        if seats.free.is_empty() {
             return seats;
         }
         let i = next;
@@ -64,8 +65,8 @@ fn second_step(
     requires rows_len { (length (rows_of rows.old) ≡ seats) × (rows_of columns.old ≡ replicate width 0) × (length mates.old ≡ seats) }
     ensures { keep.new ≡ tries width (rows_of view.now) (length (rows_of view.now)) 0 keep.old }
 {
-    let all = sets::all(d);
-    let none = sets::empty();
+    let all = Row::all(d);
+    let none = Row::empty();
     let mut seats = Seating {
         d,
         used: 0,

@@ -10,7 +10,7 @@ use lib.Dec.{eqb, ltb}
 use lib.ListN.{length}
 use borrow.Author.Tests.{eqb-true, eqb-false, ltb-false, not-false, eq-eqb, ne_eqb, lt-ltb, le-ltb}
 use Rattle.sets.specs.Limits.{most_values, most_rows}
-use Rattle.sets.specs.declared.Found.TheVariants.{Nothing}
+use Rattle.std.specs.Prelude.{None}
 use Rattle.refusals.specs.declared.Refusal.TheVariants.{LongFile}
 use Rattle.refusals.specs.Cases.{found}
 use Rattle.refusals.proofs.Outcomes.{NoneApplies, Gives}
@@ -34,7 +34,7 @@ module _ (file : List ℕ) where
   pub record FileRight : Type 0 where
     pub front : HeaderRight
     pub whole : length file ≡ 8 + 8 * count_in file
-    pub none_over : row_over file ≡ Nothing
+    pub none_over : row_over file ≡ None
 
   abbrev due : ℕ
   due = 8 + 8 * count_in file

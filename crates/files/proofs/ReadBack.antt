@@ -11,7 +11,7 @@ use lib.ListN.{length, get_or, take, drop, get_or-append}
 use lib.Pow.{pow_mono}
 use lib.Seq.{ext_get_or, take_at}
 use borrow.Author.Tests.{eqb-false, not-true, le-ltb}
-use Rattle.sets.specs.declared.Found.TheVariants.{Nothing}
+use Rattle.std.specs.Prelude.{None}
 use Rattle.sets.specs.Limits.{most_rows}
 use Rattle.sets.specs.Sets.{below, within}
 use Rattle.sets.specs.Rows.{row_words, width, rows_of, in_words, as_row}
@@ -111,7 +111,7 @@ module _ (d : ℕ) (table : List ℕ) (right : TableRight most_rows d table) whe
 
   -- ---- it is read
 
-  none_over : row_over file ≡ Nothing
+  none_over : row_over file ≡ None
   unfolding within
   none_over = lowest_none (λ i. not (below (values_in file) (row_in file i))) (count_in file) (λ i h.
       let here : i < t = omega (arith, h, count) in

@@ -10,8 +10,7 @@ use native.Mathlib.Omega.{arith}
 use native.Mathlib.Numerals.{add-one}
 use lib.ListN.{length, get_or, length-append, get_or-append}
 use lib.Seq.{get_or_at}
-use Rattle.sets.specs.declared.Found.{Found}
-use Rattle.sets.specs.declared.Found.TheVariants.{At, Nothing}
+use Rattle.std.specs.Prelude.{Option, Some, None}
 use Rattle.sheet.proofs.UptoLaws.{top_or-below}
 use Rattle.files.specs.Rows.{list_to, or_at, lowest_to}
 
@@ -35,22 +34,22 @@ list_at f (suc n) i h = elim (ℕ_discrete i n) [
 -- ---- the lowest that passes
 
 -- none below n passes: n is the lowest that does, or none below n + 1 does
-pub lowest_here : (f : ℕ → Bool) (n : ℕ) → lowest_to f n ≡ Nothing → f n ≡ true → lowest_to f (n + 1) ≡ At n
+pub lowest_here : (f : ℕ → Bool) (n : ℕ) → lowest_to f n ≡ None → f n ≡ true → lowest_to f (n + 1) ≡ Some n
 unfolding lowest_to
 lowest_here f n none e = rw (add-one n, none, e) refl
 
-pub lowest_pass : (f : ℕ → Bool) (n : ℕ) → lowest_to f n ≡ Nothing → f n ≡ false → lowest_to f (n + 1) ≡ Nothing
+pub lowest_pass : (f : ℕ → Bool) (n : ℕ) → lowest_to f n ≡ None → f n ≡ false → lowest_to f (n + 1) ≡ None
 unfolding lowest_to
 lowest_pass f n none e = rw (add-one n, none, e) refl
 
 -- none is found where none passes
-pub lowest_none : (f : ℕ → Bool) (n : ℕ) → ((j : ℕ) → j < n → f j ≡ false) → lowest_to f n ≡ Nothing
+pub lowest_none : (f : ℕ → Bool) (n : ℕ) → ((j : ℕ) → j < n → f j ≡ false) → lowest_to f n ≡ None
 unfolding lowest_to
 lowest_none f zero p = refl
 lowest_none f (suc n) p = rw (lowest_none f n (λ j h. p j (omega arith)), p n (omega arith)) refl
 
 -- what was found stays found
-pub lowest_stays : (f : ℕ → Bool) (n k i : ℕ) → lowest_to f n ≡ At i → lowest_to f (k + n) ≡ At i
+pub lowest_stays : (f : ℕ → Bool) (n k i : ℕ) → lowest_to f n ≡ Some i → lowest_to f (k + n) ≡ Some i
 unfolding lowest_to
 lowest_stays f n zero i e = let z : zero + n ≡ n = omega arith in rw z e
 lowest_stays f n (suc k) i e = let z : suc k + n ≡ suc (k + n) = omega arith in rw (z, lowest_stays f n k i e) refl
@@ -61,26 +60,26 @@ pub record Lowest (f : ℕ → Bool) (n i : ℕ) : Type 0 where
   pub passes : f i ≡ true
   pub before : (j : ℕ) → j < i → f j ≡ false
 
-abbrev Says : (ℕ → Bool) → ℕ → Found → Type 0
-Says f n Nothing = (j : ℕ) → j < n → f j ≡ false
-Says f n (At i) = Lowest f n i
+abbrev Says : (ℕ → Bool) → ℕ → Option ℕ → Type 0
+Says f n None = (j : ℕ) → j < n → f j ≡ false
+Says f n (Some i) = Lowest f n i
 
 says : (f : ℕ → Bool) (n : ℕ) → Says f n (lowest_to f n)
 unfolding lowest_to
 says f zero = λ j h. absurd (omega arith)
 says f (suc n) = go (lowest_to f n) (f n) refl (says f n)
   where
-    go : (found : Found) (b : Bool) → f n ≡ b → Says f n found → Says f (suc n) (or_at found b n)
-    go (At i) b e s = record { inside = omega (arith, s.inside); passes = s.passes; before = s.before }
-    go Nothing true e s = record { inside = omega arith; passes = e; before = s }
-    go Nothing false e s = λ j h. elim (top_or-below n j h) [
+    go : (found : Option ℕ) (b : Bool) → f n ≡ b → Says f n found → Says f (suc n) (or_at found b n)
+    go (Some i) b e s = record { inside = omega (arith, s.inside); passes = s.passes; before = s.before }
+    go None true e s = record { inside = omega arith; passes = e; before = s }
+    go None false e s = λ j h. elim (top_or-below n j h) [
       | inl same ↦ rw same e
       | inr lower ↦ s j lower
     ]
 
-pub lowest_says : (f : ℕ → Bool) (n i : ℕ) → lowest_to f n ≡ At i → Lowest f n i
+pub lowest_says : (f : ℕ → Bool) (n i : ℕ) → lowest_to f n ≡ Some i → Lowest f n i
 lowest_says f n i e = rw e at (says f n)
 
 -- and none passes where none is found
-pub none_passes : (f : ℕ → Bool) (n : ℕ) → lowest_to f n ≡ Nothing → (j : ℕ) → j < n → f j ≡ false
+pub none_passes : (f : ℕ → Bool) (n : ℕ) → lowest_to f n ≡ None → (j : ℕ) → j < n → f j ≡ false
 none_passes f n e = rw e at (says f n)

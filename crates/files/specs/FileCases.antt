@@ -1,7 +1,6 @@
 -- The refusals of a lesson file (the request, 'Lesson files', with wishes 2 and 3), in the order in which they are tried: the lists below are it.
-use Rattle.std.specs.Prelude.{ℕ, zero, ◌+◌, ◌*◌, not, ◌||◌, List, [], ◌∷◌, ◌++◌, eqb, ltb, length}
+use Rattle.std.specs.Prelude.{ℕ, zero, ◌+◌, ◌*◌, not, ◌||◌, List, [], ◌∷◌, ◌++◌, eqb, ltb, length, Option}
 use Rattle.sets.specs.Limits.{most_values, most_rows}
-use Rattle.sets.specs.declared.Found.{Found}
 use Rattle.sets.specs.Sets.{below}
 use Rattle.refusals.specs.declared.Refusal.TheVariants.{ShortFile, WrongMark, WrongVersion, BadValues, ManyRows, CutShort, LongFile}
 use Rattle.refusals.specs.declared.Refusal.TheVariants.{RowOver, FewPlaces}
@@ -24,7 +23,7 @@ module _ (file : List ℕ) where
       ∷ []
 
   -- the lowest row that 'has a value d or above'
-  abbrev pub row_over : Found
+  abbrev pub row_over : Option ℕ
   row_over = lowest_to (λ i. not (below (values_in file) (row_in file i))) (count_in file)
 
   -- '26 a row has a value d or above (the lowest such row is returned)'; wish 3: '27 is withdrawn'

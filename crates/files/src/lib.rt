@@ -54,8 +54,8 @@ fn cell(file: &[u8], d: usize, i: usize) -> Row
     ensures { Holds result (cell_in file.now i) }
 {
     let row = numbers::row(file, i);
-    if sets::is_empty(row) {
-        sets::all(d)
+    if row.is_empty() {
+        Row::all(d)
     } else {
         row
     }

@@ -27,7 +27,7 @@ pub fn row(file: &[u8], i: usize) -> Row
     requires { 16 + 8 * i ≤ length file.now }
     ensures { Holds result (row_in file.now i) }
 {
-    sets::of_word(big(file, 8 + 8 * i, 8))
+    Row::from(big(file, 8 + 8 * i, 8))
 }
 
 // The lowest of the first n rows that has a value d or above.
@@ -37,7 +37,7 @@ pub fn over(file: &[u8], d: usize, n: usize) -> Found
 {
     let mut next: usize = 0;
     while next < n {
-        if !sets::below(row(file, next), d) {
+        if !row(file, next).below(d) {
             return Found::At(next);
         }
         next += 1;

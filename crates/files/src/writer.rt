@@ -39,7 +39,7 @@ pub fn put_rows(buffer: &mut [u8], table: &[u64])
     let mut next: usize = 0;
     while next < n {
         let row = sets::row_at(table, next);
-        put(buffer, 8 + 8 * next, 8, sets::as_word(row));
+        put(buffer, 8 + 8 * next, 8, u64::from(row));
         next += 1;
     }
 }

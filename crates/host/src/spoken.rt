@@ -4,6 +4,7 @@ ghost use Rattle.host.specs.Numbers.{plain_refused};
 ghost use Rattle.host.specs.Spoken.{asked_by, plain_of};
 
 use refusals::Refusal;
+use sets::Row;
 use sheet::Sheet;
 use store::{Answer, Call, Change, Question, Target};
 
@@ -43,7 +44,7 @@ pub fn heard(kind: u64, n: u64) -> Asked
         return Asked::One(Call::Do(Change::Delete(Target::Own(n as usize))));
     }
     if kind == 2 {
-        return Asked::One(Call::Do(Change::Insert(sets::of_word(n))));
+        return Asked::One(Call::Do(Change::Insert(Row::from(n))));
     }
     if kind == 3 {
         return Asked::One(Call::Do(Change::Reset));
@@ -82,7 +83,7 @@ pub fn tell(answer: Answer) -> Plain
         },
         Answer::Seen(row) => Plain {
             refusal: 0,
-            first: sets::as_word(row),
+            first: u64::from(row),
             second: 0,
         },
         Answer::Counted(rows, held) => Plain {

@@ -17,7 +17,7 @@ fn repeats(rows: &[u64], i: usize) -> bool
     if i == 0 {
         return false;
     }
-    sets::equal(sets::row_at(rows, i - 1), sets::row_at(rows, i))
+    sets::row_at(rows, i - 1) == sets::row_at(rows, i)
 }
 
 // Chains the rows that have no value of `singles` and are not the same as the row before by how many values they have, in view order:
@@ -29,17 +29,17 @@ pub fn chain(rows: &[u64], singles: Row, next: &mut [usize], head: &mut [u16]) -
     requires rows_in_bounds { (length (rows_of rows.now) ≤ length next.old) × (length head.old ≡ width + 1) × Past (rows_of rows.now) head.old }
     ensures { Chains (rows_of rows.now) next.new head.new 0 × Sizes (rows_of rows.now) 0 (bits result) }
 {
-    let mut sizes = sets::empty();
+    let mut sizes = Row::empty();
     let mut left = sets::row_count(rows);
     while 0 < left {
         left -= 1;
         let row = sets::row_at(rows, left);
-        if !sets::meets(row, singles) {
+        if !row.meets(singles) {
             if !repeats(rows, left) {
-                let k = sets::count(row);
+                let k = row.count();
                 next[left] = head[k] as usize;
                 head[k] = left as u16;
-                sizes = sets::with(sizes, k - 1);
+                sizes = sizes.with(k - 1);
             }
         }
     }

@@ -16,20 +16,20 @@ fn none_within(mins: &[u64], found: usize, x: Row) -> bool
     requires { found ≤ length (rows_of mins.now) }
     ensures { Scanned result (rows_of mins.now) found (bits x) }
 {
-    let others = sets::minus(sets::all(sets::VALUES), x);
+    let others = Row::all(sets::VALUES).minus(x);
     let mut next: usize = 0;
     while 4 <= found - next {
-        let a = sets::meets(sets::row_at(mins, next), others);
-        let b = sets::meets(sets::row_at(mins, next + 1), others);
-        let c = sets::meets(sets::row_at(mins, next + 2), others);
-        let d = sets::meets(sets::row_at(mins, next + 3), others);
+        let a = sets::row_at(mins, next).meets(others);
+        let b = sets::row_at(mins, next + 1).meets(others);
+        let c = sets::row_at(mins, next + 2).meets(others);
+        let d = sets::row_at(mins, next + 3).meets(others);
         if !a | !b | !c | !d {
             return false;
         }
         next += 4;
     }
     while next < found {
-        if !sets::meets(sets::row_at(mins, next), others) {
+        if !sets::row_at(mins, next).meets(others) {
             return false;
         }
         next += 1;
@@ -59,7 +59,7 @@ fn level(
         let i = place;
         place = next[i];
         let x = sets::row_at(rows, i);
-        let t = sets::tag(x);
+        let t = x.tag();
         if none_within(mins, tags::to_test(base, found, &tags, t), x) {
             keep[i] = true;
             sets::put_row(mins, found, x);
@@ -81,9 +81,9 @@ pub fn sift(rows: &[u64], singles: Row, keep: &mut [bool], next: &mut [usize], m
     let mut head = [sets::row_count(rows) as u16; SIZES];
     let mut left = chains::chain(rows, singles, next, &mut head);
     let mut found: usize = 0;
-    while !sets::is_empty(left) {
-        let k = sets::lowest(left) + 1;
-        left = sets::rest(left);
+    while !left.is_empty() {
+        let k = left.lowest() + 1;
+        left = left.rest();
         found = level(rows, next, &head, k, keep, mins, found);
     }
 }

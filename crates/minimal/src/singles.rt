@@ -10,7 +10,7 @@ fn is_single(x: Row) -> bool
     requires { bits x ≢ zero }
     ensures { IsSingle result (bits x) }
 {
-    sets::is_empty(sets::rest(x))
+    x.rest().is_empty()
 }
 
 // Marks the rows of one value, of equal ones the first, and answers the set of their values.
@@ -20,16 +20,16 @@ pub fn mark_singles(rows: &[u64], keep: &mut [bool]) -> Row
         × Marks (rows_of rows.now) keep.new 0 0 }
 {
     let n = sets::row_count(rows);
-    let mut singles = sets::empty();
+    let mut singles = Row::empty();
     let mut next: usize = 0;
     while next < n {
         let i = next;
         next += 1;
         let x = sets::row_at(rows, i);
         if is_single(x) {
-            if !sets::meets(x, singles) {
+            if !x.meets(singles) {
                 keep[i] = true;
-                singles = sets::either(singles, x);
+                singles = singles.either(x);
             }
         }
     }

@@ -15,10 +15,10 @@ fn enter(row: Row, i: usize, columns: &mut [u64])
     ensures { Entered (bits row) i (rows_of columns.old) (rows_of columns.new) }
 {
     let mut left = row;
-    while !sets::is_empty(left) {
-        let v = sets::lowest(left);
-        left = sets::rest(left);
-        let more = sets::with(sets::row_at(columns, v), i);
+    while !left.is_empty() {
+        let v = left.lowest();
+        left = left.rest();
+        let more = sets::row_at(columns, v).with(i);
         sets::put_row(columns, v, more);
     }
 }
@@ -36,9 +36,9 @@ pub fn enter_light(entered: usize, heavy: Row, rows: &[u64], columns: &mut [u64]
         let i = next;
         next += 1;
         let row = sets::row_at(rows, i);
-        if sets::count(row) <= LIGHT {
+        if row.count() <= LIGHT {
             enter(row, i, columns);
-            left = sets::without(left, i);
+            left = left.without(i);
         }
     }
     left

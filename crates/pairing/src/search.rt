@@ -22,16 +22,16 @@ pub fn ask_value(
     ensures { OfValue result v (rows_of rows.now) mates.old (at (rows_of asked.old) 0)
         mates.new (at (rows_of asked.new) 0) }
 {
-    let mut left = sets::either(sets::row_at(columns, v), heavy);
+    let mut left = sets::row_at(columns, v).either(heavy);
     loop {
-        let next = sets::top(sets::minus(left, sets::row_at(asked, 0)));
+        let next = left.minus(sets::row_at(asked, 0)).top();
         if next == 0 {
             return false;
         }
         let i = next - 1;
-        left = sets::without(left, i);
-        if sets::has(sets::row_at(rows, i), v) {
-            let more = sets::with(sets::row_at(asked, 0), i);
+        left = left.without(i);
+        if sets::row_at(rows, i).has(v) {
+            let more = sets::row_at(asked, 0).with(i);
             sets::put_row(asked, 0, more);
             if ask_row(i, v, rows, columns, heavy, mates, asked) {
                 return true;
@@ -85,11 +85,11 @@ pub fn search(
 {
     let mut left = free;
     loop {
-        if sets::is_empty(left) {
+        if left.is_empty() {
             return sets::VALUES;
         }
-        let v = sets::lowest(left);
-        left = sets::rest(left);
+        let v = left.lowest();
+        left = left.rest();
         if ask_value(v, rows, columns, heavy, mates, asked) {
             return v;
         }

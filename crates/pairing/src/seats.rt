@@ -33,15 +33,15 @@ fn unreached(asked: &[u64; sets::WORDS], mates: &[usize]) -> Row
     ensures { Unreached (at (rows_of asked.now) 0) mates.now (bits result) }
 {
     let reached = sets::row_at(asked, 0);
-    let mut dead = sets::empty();
+    let mut dead = Row::empty();
     let mut next: usize = 0;
     while next < mates.len() {
         let i = next;
         next += 1;
         let mate = mates[i];
         if mate != 0 {
-            if !sets::has(reached, i) {
-                dead = sets::with(dead, mate - 1);
+            if !reached.has(i) {
+                dead = dead.with(mate - 1);
             }
         }
     }
@@ -58,10 +58,10 @@ fn seated(s: Seating, row: Row, v: usize) -> Seating
         d: s.d,
         used: s.used + 1,
         entered: s.entered,
-        free: sets::without(s.free, v),
+        free: s.free.without(v),
         dead,
-        fresh: sets::minus(s.fresh, row),
-        heavy: sets::with(s.heavy, s.used),
+        fresh: s.fresh.minus(row),
+        heavy: s.heavy.with(s.used),
     }
 }
 
@@ -71,11 +71,11 @@ fn near(row: Row, free: Row, fresh: Row) -> usize
     requires { (bit_and (bits row) (bits free) ≢ 0) × Inside (bit_and (bits row) (bits fresh)) (bits free) }
     ensures { (result < width) × (has (bits free) result ≡ true) × (has (bits row) result ≡ true) }
 {
-    let new = sets::both(row, fresh);
-    if !sets::is_empty(new) {
-        return sets::lowest(new);
+    let new = row.both(fresh);
+    if !new.is_empty() {
+        return new.lowest();
     }
-    sets::lowest(sets::both(row, free))
+    row.both(free).lowest()
 }
 
 // The row holds a value that is free, and takes it.
@@ -103,13 +103,13 @@ fn sit_near(
 pub fn hopeless(row: Row, free: Row, dead: Row) -> bool
     ensures { Hopeless result (bits row) (bits free) (bits dead) }
 {
-    if sets::meets(row, free) {
+    if row.meets(free) {
         return false;
     }
-    if sets::is_empty(free) {
+    if free.is_empty() {
         return true;
     }
-    sets::subset(row, dead)
+    row.subset(dead)
 }
 
 // The row holds no free value, and a search decides whether it gets a seat. If not, the values that no question reached never come free again.
@@ -128,13 +128,13 @@ fn seek(row: Row, s: Seating, rows: &mut [u64], columns: &mut [u64], mates: &mut
     let through = end * sets::WORDS;
     let free = s.free;
     let fresh = s.fresh;
-    let from = sets::minus(free, fresh);
+    let from = free.minus(fresh);
     let mut asked = [0u64; sets::WORDS];
     let v = search(
         from,
         &rows[..through],
         columns,
-        sets::with(heavy, used),
+        heavy.with(used),
         &mut mates[..end],
         &mut asked,
     );
@@ -178,7 +178,7 @@ pub fn offer(
     ensures { OfSeat (bits row) s (rows_of rows.old) result (rows_of rows.new) (rows_of columns.new)
         mates.new }
 {
-    if sets::meets(row, s.free) {
+    if row.meets(s.free) {
         return sit_near(row, s, rows, columns, mates);
     }
     if hopeless(row, s.free, s.dead) {

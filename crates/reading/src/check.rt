@@ -64,7 +64,7 @@ fn list_right(list: &[u64; PLACES], refusal: u64, cells: &[u64]) -> bool {
 
 fn is_cell(row: NextRow, cell: u64) -> bool {
     match row {
-        NextRow::Cell(row) => sets::as_word(row) == cell,
+        NextRow::Cell(row) => u64::from(row) == cell,
         NextRow::NoMore => false,
     }
 }

@@ -6,8 +6,7 @@ use mathlib.Core.Bool.{true, false≢true}
 use mathlib.Core.List.Memᴰ
 use mathlib.Core.List.{List, ◌++◌}
 use native.Mathlib.Omega.{arith}
-use Rattle.sets.specs.declared.Found.{Found}
-use Rattle.sets.specs.declared.Found.TheVariants.{At, Nothing}
+use Rattle.std.specs.Prelude.{Option, Some, None}
 use Rattle.sets.specs.Tables.{bad_row}
 use Rattle.sets.proofs.BadRows.{LowestBad, bad_row-at}
 use Rattle.refusals.specs.declared.Refusal.{Refusal}
@@ -49,9 +48,9 @@ row_stated LongFile a b = refl
 row_stated ShortBuffer a b = refl
 
 -- what was found, where a case names it
-pub found_at_lem : (f : Found) → found f ≡ true → f ≡ At (found_at f)
-found_at_lem Nothing e = absurd (false≢true e)
-found_at_lem (At i) e = refl
+pub found_at_lem : (f : Option ℕ) → found f ≡ true → f ≡ Some (found_at f)
+found_at_lem None e = absurd (false≢true e)
+found_at_lem (Some i) e = refl
 
 -- the cases of a table, with others behind them
 pub table_rising : (most d : ℕ) (table : List ℕ) (cs : List Case) → Rising 2 cs → Rising 0 (table_cases most d table ++ cs)

@@ -9,8 +9,7 @@ use lib.Dec.{eqb, ltb}
 use lib.ListN.{length}
 use borrow.Author.Tests.{eqb-false, ltb-false, ne_eqb, le-ltb}
 use Rattle.sets.specs.Limits.{most_values}
-use Rattle.sets.specs.declared.Found.{Found}
-use Rattle.sets.specs.declared.Found.TheVariants.{At, Nothing}
+use Rattle.std.specs.Prelude.{Option, Some, None}
 use Rattle.sets.specs.Tables.{bad_row}
 use Rattle.refusals.specs.declared.Refusal.{Refusal}
 use Rattle.refusals.specs.declared.tables.Judged.TheVariants.{Right, Refused}
@@ -38,15 +37,15 @@ pub record TableRight (most d : ℕ) (table : List ℕ) : Type 0 where
   pub some_value : 1 ≤ d
   pub values : d ≤ most_values
   pub small : length table ≤ most
-  pub none_bad : bad_row d table ≡ Nothing
+  pub none_bad : bad_row d table ≡ None
 
 pub or_no : (a b : Bool) → (a || b) ≡ false → (a ≡ false) × (b ≡ false)
 or_no false b e = (refl, e)
 or_no true b e = absurd (false≢true (sym e))
 
-pub not_found : (f : Found) → found f ≡ false → f ≡ Nothing
-not_found Nothing e = refl
-not_found (At i) e = absurd (false≢true (sym e))
+pub not_found : (f : Option ℕ) → found f ≡ false → f ≡ None
+not_found None e = refl
+not_found (Some i) e = absurd (false≢true (sym e))
 
 module _ (most d : ℕ) (table : List ℕ) where
   pub right_parts : NoneApplies (table_cases most d table) → TableRight most d table

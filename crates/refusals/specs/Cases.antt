@@ -1,8 +1,6 @@
 -- Which refusal is given (the request, 'Refusal numbers'): 'Where several apply, the lowest number is given.' Where a wish has a number 'tried' out
 -- of its turn, the list of the cases is the order, and the first that applies is given.
-use Rattle.std.specs.Prelude.{ℕ, zero, ◌<◌, ◌≡◌, Bool, true, false, cond, ◌&&◌, ◌||◌, List, [], ◌∷◌, eqb}
-use Rattle.sets.specs.declared.Found.{Found}
-use Rattle.sets.specs.declared.Found.TheVariants.{At, Nothing}
+use Rattle.std.specs.Prelude.{ℕ, zero, ◌<◌, ◌≡◌, Bool, true, false, cond, ◌&&◌, ◌||◌, List, [], ◌∷◌, eqb, Option, Some, None}
 use Rattle.refusals.specs.declared.Refusal.{Refusal}
 use Rattle.refusals.specs.Refusals.{number}
 
@@ -16,16 +14,16 @@ abbrev pub ◌gives◌ : Bool → Refusal → Case
 b gives r = record { applies = b; refusal = r }
 
 -- a refusal that returns a row applies where such a row was found
-abbrev pub found : Found → Bool
-found Nothing = false
-found (At i) = true
+abbrev pub found : Option ℕ → Bool
+found None = false
+found (Some i) = true
 
-abbrev pub found_at : Found → ℕ
-found_at Nothing = zero
-found_at (At i) = i
+abbrev pub found_at : Option ℕ → ℕ
+found_at None = zero
+found_at (Some i) = i
 
 infix 4 ◌names◌
-abbrev pub ◌names◌ : Found → (ℕ → Refusal) → Case
+abbrev pub ◌names◌ : Option ℕ → (ℕ → Refusal) → Case
 f names r = found f gives r (found_at f)
 
 -- the first case that applies is refused; where none does, the answer stands

@@ -3,7 +3,7 @@ ghost use Rattle.std.specs.Prelude.{◌≡◌, ◌<◌, length, get_or};
 ghost use Rattle.sets.specs.Rows.{bits, Holds, rows_of, put_row};
 ghost use Rattle.sets.specs.Tables.{bad_row};
 
-use crate::{Found, Row, within};
+use crate::Row;
 
 // How many rows the words hold.
 pub fn row_count(words: &[u64]) -> usize
@@ -29,16 +29,13 @@ pub fn put_row(words: &mut [u64], i: usize, row: Row)
 }
 
 // The lowest row that is empty or has a value d or above.
-pub fn bad_row(table: &[u64], d: usize) -> Found
+pub fn bad_row(table: &[u64], d: usize) -> Option<usize>
     ensures { result ≡ bad_row d (rows_of table.now) }
 {
-    let n = row_count(table);
-    let mut i = 0;
-    while i < n {
-        if !within(row_at(table, i), d) {
-            return Found::At(i);
+    for i in 0..row_count(table) {
+        if !row_at(table, i).within(d) {
+            return Some(i);
         }
-        i += 1;
     }
-    Found::Nothing
+    None
 }

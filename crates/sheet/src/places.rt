@@ -16,7 +16,7 @@ fn rest_empty(used: usize, sets: &[u64; Sheet::SETS], owners: &[usize; Sheet::PL
         if owners[next] != 0 {
             return false;
         }
-        if !sets::is_empty(sets::row_at(sets, next)) {
+        if !sets::row_at(sets, next).is_empty() {
             return false;
         }
         next += 1;
@@ -42,7 +42,7 @@ pub fn go_over(
         if desks <= owner {
             return false;
         }
-        if !sets::within(sets::row_at(sets, next), d) {
+        if !sets::row_at(sets, next).within(d) {
             return false;
         }
         counts[owner] = counts[owner] + 1;

@@ -6,6 +6,7 @@ ghost use Rattle.sheet.specs.Changes.{padded};
 ghost use Rattle.sheet.specs.Code.Removals.{ClosedUp, TakenOut};
 
 use crate::Sheet;
+use sets::Row;
 
 // Whether a row goes: it is one of the desk's, and of the desk's rows it is one of those from number `from` to `upto` - 1.
 // The desk has `seen` rows before it.
@@ -66,7 +67,7 @@ fn empty_from(left: usize, sets: &mut [u64], owners: &mut [usize])
 {
     let mut next = left;
     while next < Sheet::PLACES {
-        sets::put_row(sets, next, sets::empty());
+        sets::put_row(sets, next, Row::empty());
         owners[next] = 0;
         next += 1;
     }

@@ -11,8 +11,7 @@ use Rattle.sets.specs.Rows.{bits, as_row}
 use Rattle.sets.specs.Limits.{most_held, most_in_view, most_rows, most_values, promised}
 use Rattle.theory.specs.Pairings.{at}
 use Rattle.theory.specs.Kept.{kept}
-use Rattle.sets.specs.declared.Found.{Found}
-use Rattle.sets.specs.declared.Found.TheVariants.{At, Nothing}
+use Rattle.std.specs.Prelude.{Option, Some, None}
 use Rattle.sets.specs.Sets.{within}
 use Rattle.sets.specs.Tables.{bad_row}
 use Rattle.sheet.specs.declared.Sheet.{Sheet}
@@ -69,9 +68,9 @@ module _ (d : ℕ) (table : List ℕ) (full : Bool) (places : ℕ) (hid : ℕ �
       let short = skipped 12 (ltb places rows) ShortList ((ltb most_in_view rows gives LongView) ∷ []) a (omega arith) e in
       omega (arith, ltb-true most_in_view rows (applied 12 (ltb most_in_view rows) LongView a (omega arith) short.1), view-most table hid own)
 
-not_bad : (f : Found) → number (bad_case f).refusal ≢ 12
-not_bad Nothing = omega arith
-not_bad (At i) = omega arith
+not_bad : (f : Option ℕ) → number (bad_case f).refusal ≢ 12
+not_bad None = omega arith
+not_bad (Some i) = omega arith
 
 -- on any sheet, whoever handed it
 pub never_twelve : (d : ℕ) (table : List ℕ) (s : Sheet) (k : ℕ) (c : Call) (places : ℕ) → number_of (answered d table s k c places) ≢ 12

@@ -71,7 +71,7 @@ fn insert(d: usize, full: bool, held: usize, row: Row) -> Answer
     requires { d ≤ most_values }
     ensures { result ≡ decided Refused (insert_cases d full held (bits row)) Done }
 {
-    if !sets::within(row, d) {
+    if !row.within(d) {
         return Answer::Refused(Refusal::BadSet);
     }
     if Sheet::HELD <= held {

@@ -1,5 +1,6 @@
 // The doors of the store, each by plain numbers.
 use crate::script::{Plain, Turn};
+use sets::Row;
 use sheet::Sheet;
 use store::{Answer, Call, Change, Question, Reply, Target};
 
@@ -35,7 +36,7 @@ fn call(kind: u64, number: u64) -> Call {
     match kind {
         0 => Call::Do(Change::Delete(Target::Table(number as usize))),
         1 => Call::Do(Change::Delete(Target::Own(number as usize))),
-        2 => Call::Do(Change::Insert(sets::of_word(number))),
+        2 => Call::Do(Change::Insert(Row::from(number))),
         3 => Call::Do(Change::Reset),
         LOOK => Call::Ask(Question::Look(number as usize)),
         COUNT => Call::Ask(Question::Count),
@@ -56,7 +57,7 @@ fn numbers(refusal: u64, first: u64, second: u64) -> Plain {
 fn spelt(answer: Answer) -> Plain {
     match answer {
         Answer::Done => numbers(0, 0, 0),
-        Answer::Seen(row) => numbers(0, sets::as_word(row), 0),
+        Answer::Seen(row) => numbers(0, u64::from(row), 0),
         Answer::Counted(rows, own) => numbers(0, rows as u64, own as u64),
         Answer::Listed(n) => numbers(0, n as u64, 0),
         Answer::Refused(why) => numbers(refusals::number(why) as u64, refusals::row(why) as u64, 0),

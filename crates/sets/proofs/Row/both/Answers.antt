@@ -1,0 +1,9 @@
+-- `Row::both` meets its contract, word by word. Assumes nothing.
+use mathlib.Core.Path.{refl}
+use Rattle.sets.specs.Rows.{words_of, bits}
+use Rattle.sets.proofs.WordSets.{and-bits}
+use Rattle.sets.proofs.Row.both.Goals as goal
+
+pub returns : goal.returns
+unfolding bits words_of
+returns c = let args = c.args in and-bits (words_of args.self) (words_of args.other) refl

@@ -1,9 +1,0 @@
--- `sets::differ` meets its contract, word by word. Assumes nothing.
-use mathlib.Core.Path.{refl}
-use Rattle.sets.specs.Rows.{words_of, bits}
-use Rattle.sets.proofs.WordSets.{xor-bits}
-use Rattle.sets.proofs.differ.Goals as goal
-
-pub returns : goal.returns
-unfolding bits words_of
-returns c = let args = c.args in xor-bits (words_of args.a) (words_of args.b) refl
