@@ -4,12 +4,13 @@ use mathlib.Core.Path.{sym, ap, ◌∙◌}
 use mathlib.Core.List.{List}
 use Rattle.sets.specs.Rows.{rows_of}
 use Rattle.walks.proofs.Public.{Public}
-use Rattle.distinct.specs.declared.Answer.{Answer}
+use Rattle.std.specs.Prelude.{Result}
+use Rattle.refusals.specs.declared.Refusal.{Refusal}
 use Rattle.distinct.specs.Asked.{listed}
 use Rattle.distinct.proofs.ask.Kinds as ask-kinds
 use Rattle.distinct.proofs.ask.Reads as ask
 
-pub ask_determined : Public 2 ask-kinds.ps ask-kinds.r ask.Asked ask.Post (Answer × List ℕ) (λ κs r e. (r, e.1.1.0.now))
+pub ask_determined : Public 2 ask-kinds.ps ask-kinds.r ask.Asked ask.Post (Result ℕ Refusal × List ℕ) (λ κs r e. (r, e.1.1.0.now))
 ask_determined = record {
   asks_nothing = λ κs a. tt;
   determined = λ κs a r r' e e' p q.

@@ -8,7 +8,6 @@ ghost use Rattle.minimal.specs.Code.Marking.{NoMarks};
 ghost use Rattle.distinct.specs.Asked.{ask_answer, listed};
 ghost use Rattle.distinct.specs.Code.Steps.{Askable, Places};
 
-use refusals::tables::Judged;
 use refusals::{Refusal, tables};
 use sheet::Sheet;
 use steps::SEATS;
@@ -54,26 +53,14 @@ pub fn distinct(d: usize, view: &[u64], list: &mut [usize]) -> usize
     distinct_on(d, view, &mut keep[..n], &mut rows, &mut mates, list)
 }
 
-// How many rows are kept, or a refusal.
-#[derive(Clone, Copy)]
-pub enum Answer {
-    Kept(usize),
-    Refused(Refusal),
-}
-
-// DISTINCT for any caller: a view that cannot be asked about is refused, with nothing written.
-pub fn ask(d: usize, view: &[u64], list: &mut [usize]) -> Answer
+// DISTINCT for any caller: how many rows are kept; a view that cannot be asked about is refused, with nothing written.
+pub fn ask(d: usize, view: &[u64], list: &mut [usize]) -> Result<usize, Refusal>
     ensures { (result ≡ ask_answer d (rows_of view.now) (length list.old))
         × (list.new ≡ listed d (rows_of view.now) list.old result) }
 {
-    let judged = tables::judge(view, d, Sheet::VIEW);
-    match judged {
-        Judged::Right => {
-            if list.len() < sets::row_count(view) {
-                return Answer::Refused(Refusal::ShortList);
-            }
-            Answer::Kept(distinct(d, view, list))
-        }
-        Judged::Refused(refusal) => Answer::Refused(refusal),
+    tables::judge(view, d, Sheet::VIEW)?;
+    if list.len() < sets::row_count(view) {
+        return Err(Refusal::ShortList);
     }
+    Ok(distinct(d, view, list))
 }

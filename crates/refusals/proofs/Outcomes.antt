@@ -4,6 +4,7 @@ use mathlib.Core.Path.{◌≡◌, refl, sym, ap, ◌∙◌}
 use mathlib.Core.Logic.{◌≢◌, ◌⊎◌, inl, inr}
 use mathlib.Core.Bool.{Bool, true, false, cond}
 use mathlib.Core.List.{List, [], ◌∷◌, ◌++◌}
+use Rattle.std.specs.Prelude.{Result, Ok, Err}
 use Rattle.refusals.specs.declared.Refusal.{Refusal}
 use Rattle.refusals.specs.Cases.{Case, decided}
 
@@ -72,3 +73,11 @@ module _ {A : Type 0} (refused : Refusal → A) where
       | inl none ↦ absurd (apart r (sym e ∙ stands cs none a))
       | inr (s, g) ↦ rw (same s r (sym (refuses cs s g a) ∙ e)) at g
     ]
+
+-- ---- where the answer is a Result: no refusal is an answer, and different refusals are different results
+
+pub not_ok : {A : Type 0} (a : A) (r : Refusal) → ◌≡◌ {A = Result A Refusal} (Err r) (Ok a) → ⊥
+not_ok a r e = cc
+
+pub same_err : {A : Type 0} (r s : Refusal) → ◌≡◌ {A = Result A Refusal} (Err r) (Err s) → r ≡ s
+same_err r s e = cc

@@ -1,7 +1,6 @@
 -- What is known once `judge` has judged a table: of one that is right, part by part, and of one that is refused. Assumes nothing.
 use Prim.Native.Nat.{ℕ, zero, ◌≤◌}
 use mathlib.Core.Path.{◌≡◌, refl, sym}
-use mathlib.Core.Logic.{◌≢◌}
 use mathlib.Core.Bool.{Bool, true, false, ◌||◌, false≢true}
 use mathlib.Core.List.{List}
 use native.Mathlib.Omega.{arith}
@@ -9,27 +8,27 @@ use lib.Dec.{eqb, ltb}
 use lib.ListN.{length}
 use borrow.Author.Tests.{eqb-false, ltb-false, ne_eqb, le-ltb}
 use Rattle.sets.specs.Limits.{most_values}
-use Rattle.std.specs.Prelude.{Option, Some, None}
+use Rattle.std.specs.Prelude.{Option, Some, None, Result, Ok, Err}
 use Rattle.sets.specs.Tables.{bad_row}
 use Rattle.refusals.specs.declared.Refusal.{Refusal}
-use Rattle.refusals.specs.declared.tables.Judged.TheVariants.{Right, Refused}
 use Rattle.refusals.specs.Cases.{Case, found, decided}
 use Rattle.refusals.specs.TableCases.{table_cases}
-use Rattle.refusals.proofs.Outcomes.{NoneApplies, Gives, stood, refusing}
+use Rattle.refusals.proofs.Outcomes.{NoneApplies, Gives, stood, refusing, not_ok, same_err}
 
 -- ---- by the cases of any list
 
-apart : (r : Refusal) → Refused r ≢ Right
-apart r e = let z : ◌≡◌ {A = ℕ} 0 1 = cc in omega arith
+-- what is judged: that a table is right, or its refusal
+abbrev Judged : Type 0
+Judged = Result (Unit {0}) Refusal
 
-same : (r s : Refusal) → Refused r ≡ Refused s → r ≡ s
-same r s e = cc
+abbrev right : Judged
+right = Ok tt
 
-pub judged_right : (cs : List Case) → decided Refused cs Right ≡ Right → NoneApplies cs
-judged_right = stood Refused Right apart
+pub judged_right : (cs : List Case) → decided Err cs right ≡ right → NoneApplies cs
+judged_right = stood Err right (not_ok tt)
 
-pub judged_refused : (cs : List Case) (r : Refusal) → decided Refused cs Right ≡ Refused r → Gives cs r
-judged_refused = refusing Refused Right apart same
+pub judged_refused : (cs : List Case) (r : Refusal) → decided Err cs right ≡ Err r → Gives cs r
+judged_refused = refusing Err right (not_ok tt) same_err
 
 -- ---- by the parts of a table
 

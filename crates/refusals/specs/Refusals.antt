@@ -1,5 +1,5 @@
 -- The refusals by the request's numbers ('Refusal numbers', those of 'Lesson files', and those of the wishes that followed).
-use Rattle.std.specs.Prelude.{ℕ, zero}
+use Rattle.std.specs.Prelude.{ℕ, zero, Result, Ok, Err}
 use Rattle.refusals.specs.declared.Refusal.{Refusal}
 use Rattle.refusals.specs.declared.Refusal.TheVariants.{TooLarge, BadRow, Unsound, OtherTable, NoDesk, NoRow, HiddenAlready, BadSet, Full}
 use Rattle.refusals.specs.declared.Refusal.TheVariants.{NoRoom, ShortList, LongView, BadDesks, ShortFile, WrongMark, WrongVersion, BadValues}
@@ -56,3 +56,13 @@ row (RowOver i) = i
 row FewPlaces = zero
 row LongFile = zero
 row ShortBuffer = zero
+
+-- ---- the same of what is answered: 0 where the call is accepted
+
+abbrev pub number_of : {A : Type 0} → Result A Refusal → ℕ
+number_of (Ok a) = zero
+number_of (Err r) = number r
+
+abbrev pub row_of : {A : Type 0} → Result A Refusal → ℕ
+row_of (Ok a) = zero
+row_of (Err r) = row r
