@@ -5,10 +5,10 @@ use mathlib.Core.List.{List}
 use contract.Lifetimes.{Lfts}
 use denote.Triple.Entry.{Args, Res}
 use denote.Triple.Clauses.{AtExit}
+use Rattle.std.specs.Prelude.{Result}
 use Rattle.walks.proofs.Public.{Public, Contract}
 use Rattle.sets.specs.Rows.{rows_of}
-use Rattle.files.specs.declared.Lesson.{Lesson}
-use Rattle.files.specs.declared.Saved.{Saved}
+use Rattle.refusals.specs.declared.Refusal.{Refusal}
 use Rattle.files.specs.declared.Step.{Step}
 use Rattle.files.specs.Reading.{filled}
 use Rattle.files.specs.RowByRow.{step_at, moved}
@@ -25,7 +25,7 @@ use Rattle.files.specs.contracts.reader.Reader.new as new
 use Rattle.files.specs.contracts.reader.Reader.next as next
 
 -- d and T or the refusal, and every place of the lent list
-pub read_determined : Public 2 read-kinds.ps read-kinds.r read.Asked read.Post (Lesson × List ℕ) (λ κs r e. (r, e.1.0.now))
+pub read_determined : Public 2 read-kinds.ps read-kinds.r read.Asked read.Post (Result (ℕ × ℕ) Refusal × List ℕ) (λ κs r e. (r, e.1.0.now))
 read_determined = record {
   asks_nothing = λ κs a. tt;
   determined = λ κs a r r' e e' p q.
@@ -41,7 +41,7 @@ pub take_determined : Public 1 take-kinds.ps take-kinds.r take.Asked take.Post S
 take_determined = record { asks_nothing = λ κs a. tt; determined = λ κs a r r' e e' p q. p ∙ sym q }
 
 -- the file's length or the refusal, and every byte of the lent buffer
-pub write_determined : Public 2 write-kinds.ps write-kinds.r write.Asked write.Post (Saved × List ℕ) (λ κs r e. (r, e.1.1.0.now))
+pub write_determined : Public 2 write-kinds.ps write-kinds.r write.Asked write.Post (Result ℕ Refusal × List ℕ) (λ κs r e. (r, e.1.1.0.now))
 write_determined = record {
   asks_nothing = λ κs a. tt;
   determined = λ κs a r r' e e' p q.

@@ -5,11 +5,9 @@ use mathlib.Core.Path.{◌≡◌, refl, sym, ap₂, ◌∙◌}
 use mathlib.Core.List.{List, ◌++◌}
 use native.Mathlib.Omega.{arith}
 use lib.ListN.{length, drop, length-append, length-drop, get_or-append}
+use Rattle.std.specs.Prelude.{Ok, Err, None}
 use Rattle.refusals.specs.declared.Refusal.TheVariants.{LongFile}
 use Rattle.refusals.proofs.Outcomes.{refuses}
-use Rattle.files.specs.declared.Lesson.TheVariants.{Read, Refused}
-use Rattle.files.specs.declared.NextRow.TheVariants.{NoMore}
-use Rattle.files.specs.declared.Saved.TheVariants.{Length}
 use Rattle.files.specs.Bytes.{big}
 use Rattle.files.specs.Files.{values_in, count_in}
 use Rattle.files.specs.FileCases.{file_cases}
@@ -29,7 +27,7 @@ big_front file rest from zero h = refl
 big_front file rest from (suc n) h =
     ap₂ (λ (a b : ℕ). a * 256 + b) (big_front file rest from n (omega arith)) (get_or-append file rest zero (from + n) (omega arith))
 
-module _ (file rest : List ℕ) (d t : ℕ) (read : judged file ≡ Read d t) (more : 0 < length rest) where
+module _ (file rest : List ℕ) (d t : ℕ) (read : judged file ≡ Ok (d, t)) (more : 0 < length rest) where
   abbrev glued : List ℕ
   glued = file ++ rest
 
@@ -56,18 +54,18 @@ module _ (file rest : List ℕ) (d t : ℕ) (read : judged file ≡ Read d t) (m
   longer : 8 + 8 * count_in glued < length glued
   longer = omega (arith, same 6 2 (omega arith), (readable file d t read).right.whole, length-append file rest, more)
 
-  glued_judged : judged glued ≡ Refused LongFile
+  glued_judged : judged glued ≡ Err LongFile
   unfolding judged
-  glued_judged = refuses Refused (file_cases glued) LongFile (long_gives glued glued_header longer) (Read (values_in glued) (count_in glued))
+  glued_judged = refuses Err (file_cases glued) LongFile (long_gives glued glued_header longer) (Ok (values_in glued, count_in glued))
 
-  pub glued_refused : (places : ℕ) → read_answer (file ++ rest) places ≡ Refused LongFile
+  pub glued_refused : (places : ℕ) → read_answer (file ++ rest) places ≡ Err LongFile
   glued_refused places = still_refused glued places LongFile glued_judged
 
-  pub glued_no_rows : (k : ℕ) → step_at (file ++ rest) k ≡ record { row = NoMore; next = k }
+  pub glued_no_rows : (k : ℕ) → step_at (file ++ rest) k ≡ record { row = None; next = k }
   glued_no_rows = refused_no_rows glued LongFile glued_judged
 
-pub longer_buffer_refused : (d : ℕ) (table buffer : List ℕ) (n : ℕ) → write_answer d table (length buffer) ≡ Length n → n < length buffer
-    → (places : ℕ) → read_answer (buffer_after d table buffer (Length n)) places ≡ Refused LongFile
+pub longer_buffer_refused : (d : ℕ) (table buffer : List ℕ) (n : ℕ) → write_answer d table (length buffer) ≡ Ok n → n < length buffer
+    → (places : ℕ) → read_answer (buffer_after d table buffer (Ok n)) places ≡ Err LongFile
 longer_buffer_refused d table buffer n saved longer =
     let t = length table in
     let right = (saved_right d table (length buffer) n saved).0 in

@@ -11,7 +11,7 @@ use lib.ListN.{length, get_or, take, drop, get_or-append}
 use lib.Pow.{pow_mono}
 use lib.Seq.{ext_get_or, take_at}
 use borrow.Author.Tests.{eqb-false, not-true, le-ltb}
-use Rattle.std.specs.Prelude.{None}
+use Rattle.std.specs.Prelude.{None, Ok, Err, Some}
 use Rattle.sets.specs.Limits.{most_rows}
 use Rattle.sets.specs.Sets.{below, within}
 use Rattle.sets.specs.Rows.{row_words, width, rows_of, in_words, as_row}
@@ -22,10 +22,6 @@ use Rattle.sets.proofs.LentRows.{rows_append, rows_drop, words-length, Narrow, n
 use Rattle.refusals.specs.declared.Refusal.TheVariants.{FewPlaces}
 use Rattle.refusals.proofs.Outcomes.{stands}
 use Rattle.refusals.proofs.TablesJudged.{TableRight}
-use Rattle.files.specs.declared.Lesson.TheVariants.{Read}
-use Rattle.files.specs.declared.Lesson.TheVariants as lesson
-use Rattle.files.specs.declared.Saved.TheVariants.{Length}
-use Rattle.files.specs.declared.NextRow.TheVariants.{Cell, NoMore}
 use Rattle.files.specs.Bytes.{big, in_bytes}
 use Rattle.files.specs.Files.{mark_in, version_in, values_in, count_in, row_in, cell_in, cells_in}
 use Rattle.files.specs.FileCases.{row_over, file_cases}
@@ -43,11 +39,11 @@ use Rattle.files.proofs.ReaderTurns.{rows_in_turn, then_no_more}
 
 -- the file is read as d and exactly these rows, at once and row by row
 pub record ReadAs (d : ℕ) (table file : List ℕ) : Type 0 where
-  pub answers : (places : ℕ) → length table ≤ places → read_answer file places ≡ Read d (length table)
+  pub answers : (places : ℕ) → length table ≤ places → read_answer file places ≡ Ok (d, length table)
   pub fills : (list : List ℕ) → length table ≤ length (rows_of list)
-      → rows_of (filled file list (Read d (length table))) ≡ table ++ drop (length table) (rows_of list)
-  pub hands_out : (i : ℕ) → i < length table → handed_out file i ≡ Cell (as_row (get_or table i 0))
-  pub then_none : (k : ℕ) → handed_out file (k + length table) ≡ NoMore
+      → rows_of (filled file list (Ok (d, length table))) ≡ table ++ drop (length table) (rows_of list)
+  pub hands_out : (i : ℕ) → i < length table → handed_out file i ≡ Some (as_row (get_or table i 0))
+  pub then_none : (k : ℕ) → handed_out file (k + length table) ≡ None
 
 -- ---- the rows of a table that is right
 
@@ -135,13 +131,13 @@ module _ (d : ℕ) (table : List ℕ) (right : TableRight most_rows d table) whe
         none_over = none_over;
       }
 
-  read : judged file ≡ Read d t
+  read : judged file ≡ Ok (d, t)
   unfolding judged
-  read = stands lesson.Refused (file_cases file) (right_none file facts) (Read (values_in file) (count_in file)) ∙ (λ i. Read (values i) (count i))
+  read = stands Err (file_cases file) (right_none file facts) (Ok (values_in file, count_in file)) ∙ (λ i. Ok (values i, count i))
 
   -- ---- at once, and row by row
 
-  fills_list : (list : List ℕ) → t ≤ length (rows_of list) → rows_of (filled file list (Read d t)) ≡ table ++ drop t (rows_of list)
+  fills_list : (list : List ℕ) → t ≤ length (rows_of list) → rows_of (filled file list (Ok (d, t))) ≡ table ++ drop t (rows_of list)
   fills_list list h =
       ap (λ (l : List ℕ). rows_of (in_words l ++ drop (t * row_words) list)) cells
       ∙ rows_append t (in_words table) (drop (t * row_words) list) (words-length table)
@@ -149,24 +145,24 @@ module _ (d : ℕ) (table : List ℕ) (right : TableRight most_rows d table) whe
 
   pub read_back : ReadAs d table file
   read_back = record {
-    answers = λ places h. then_places file places d t read ∙ ap (λ (b : Bool). cond b (lesson.Refused FewPlaces) (Read d t)) (le-ltb places t h);
+    answers = λ places h. then_places file places d t read ∙ ap (λ (b : Bool). cond b (Err FewPlaces) (Ok (d, t))) (le-ltb places t h);
     fills = fills_list;
     hands_out = λ i h.
         let room : t ≤ length (rows_of (in_words table)) = omega (arith, ap length (rows_words table right_narrow)) in
         rows_in_turn file d t read (in_words table) i h
-        ∙ ap (λ (l : List ℕ). Cell (as_row (get_or l i 0))) (fills_list (in_words table) room)
-        ∙ ap (λ (n : ℕ). Cell (as_row n)) (get_or-append table (drop t (rows_of (in_words table))) 0 i h);
+        ∙ ap (λ (l : List ℕ). Some (as_row (get_or l i 0))) (fills_list (in_words table) room)
+        ∙ ap (λ (n : ℕ). Some (as_row n)) (get_or-append table (drop t (rows_of (in_words table))) 0 i h);
     then_none = then_no_more file d t read;
   }
 
 -- ---- a table that is saved
 
-module _ (d : ℕ) (table buffer : List ℕ) (n : ℕ) (saved : write_answer d table (length buffer) ≡ Length n) where
+module _ (d : ℕ) (table buffer : List ℕ) (n : ℕ) (saved : write_answer d table (length buffer) ≡ Ok n) where
   right : TableRight most_rows d table
   right = (saved_right d table (length buffer) n saved).0
 
-  written : take n (buffer_after d table buffer (Length n)) ≡ file_of d table
+  written : take n (buffer_after d table buffer (Ok n)) ≡ file_of d table
   written = take_at (file_of d table) (drop n buffer) n (file_length d table ∙ sym (saved_right d table (length buffer) n saved).1)
 
-  pub reading_what_was_written : ReadAs d table (take n (buffer_after d table buffer (Length n)))
+  pub reading_what_was_written : ReadAs d table (take n (buffer_after d table buffer (Ok n)))
   reading_what_was_written = subst (ReadAs d table) (sym written) (read_back d table right)

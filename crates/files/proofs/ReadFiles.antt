@@ -2,39 +2,30 @@
 -- Assumes nothing.
 use Prim.Native.Nat.{ℕ, ◌+◌, ◌*◌, ◌≤◌}
 use mathlib.Core.Path.{◌≡◌, sym, ap, ◌∙◌}
-use mathlib.Core.Logic.{◌≢◌}
 use mathlib.Core.Bool.{cond}
 use mathlib.Core.List.{List}
 use native.Mathlib.Omega.{arith}
 use lib.Dec.{ltb}
 use lib.ListN.{length}
+use Rattle.std.specs.Prelude.{Result, Ok, Err}
 use Rattle.sets.specs.Rows.{width}
 use Rattle.refusals.specs.declared.Refusal.{Refusal}
 use Rattle.refusals.specs.declared.Refusal.TheVariants.{FewPlaces}
 use Rattle.refusals.specs.Cases.{decided}
-use Rattle.refusals.proofs.Outcomes.{NoneApplies, none_first, stands, stands_first, refuses_first, not_refused, refusing}
-use Rattle.files.specs.declared.Lesson.{Lesson}
-use Rattle.files.specs.declared.Lesson.TheVariants.{Read, Refused}
+use Rattle.refusals.proofs.Outcomes.{NoneApplies, none_first, stands, stands_first, refuses_first, not_refused, refusing, not_ok, same_err}
 use Rattle.files.specs.Files.{values_in, count_in}
 use Rattle.files.specs.FileCases.{file_cases, place_cases, read_cases}
 use Rattle.files.specs.Reading.{values_of, count_of, judged, read_answer}
 use Rattle.files.proofs.FilesJudged.{FileRight, file_right}
 
--- no refusal is an answer that the file is read
-apart : (d t : ℕ) (r : Refusal) → Refused r ≢ Read d t
-apart d t r e = let z : ◌≡◌ {A = ℕ} 0 1 = cc in omega arith
-
-same : (r s : Refusal) → Refused r ≡ Refused s → r ≡ s
-same r s e = cc
-
 module _ (file : List ℕ) where
-  abbrev accepts : Lesson
-  accepts = Read (values_in file) (count_in file)
+  abbrev accepts : Result (ℕ × ℕ) Refusal
+  accepts = Ok (values_in file, count_in file)
 
   -- where it is read, no case applies
-  read_none : (d t : ℕ) → judged file ≡ Read d t → NoneApplies (file_cases file) × (accepts ≡ Read d t)
+  read_none : (d t : ℕ) → judged file ≡ Ok (d, t) → NoneApplies (file_cases file) × (accepts ≡ Ok (d, t))
   unfolding judged
-  read_none d t e = not_refused Refused accepts (Read d t) (apart d t) (file_cases file) e
+  read_none d t e = not_refused Err accepts (Ok (d, t)) (not_ok (d, t)) (file_cases file) e
 
   -- its d, which a row can hold, and T, its rows and no more, and all else that is asked of it
   pub record Readable (d t : ℕ) : Type 0 where
@@ -44,7 +35,7 @@ module _ (file : List ℕ) where
     pub whole : length file ≡ 8 + 8 * t
     pub right : FileRight file
 
-  pub readable : (d t : ℕ) → judged file ≡ Read d t → Readable d t
+  pub readable : (d t : ℕ) → judged file ≡ Ok (d, t) → Readable d t
   readable d t e =
       let none = read_none d t e in
       let right = file_right file none.0 in
@@ -60,22 +51,22 @@ module _ (file : List ℕ) where
 
   module _ (places : ℕ) where
     -- the list is looked at where the file is read
-    pub then_places : (d t : ℕ) → judged file ≡ Read d t → read_answer file places ≡ cond (ltb places t) (Refused FewPlaces) (Read d t)
+    pub then_places : (d t : ℕ) → judged file ≡ Ok (d, t) → read_answer file places ≡ cond (ltb places t) (Err FewPlaces) (Ok (d, t))
     unfolding read_answer decided
     then_places d t e =
         let none = read_none d t e in
-        stands_first Refused (file_cases file) (place_cases file places) none.0 accepts
-        ∙ (λ i. cond (ltb places (count_of (none.1 i))) (Refused FewPlaces) (none.1 i))
+        stands_first Err (file_cases file) (place_cases file places) none.0 accepts
+        ∙ (λ i. cond (ltb places (count_of (none.1 i))) (Err FewPlaces) (none.1 i))
 
     -- so a file that is answered as read is judged so
-    pub read_judged : (d t : ℕ) → read_answer file places ≡ Read d t → judged file ≡ Read d t
+    pub read_judged : (d t : ℕ) → read_answer file places ≡ Ok (d, t) → judged file ≡ Ok (d, t)
     unfolding read_answer judged
     read_judged d t e =
-        let none = not_refused Refused accepts (Read d t) (apart d t) (read_cases file places) e in
-        stands Refused (file_cases file) (none_first (file_cases file) (place_cases file places) none.0) accepts ∙ none.1
+        let none = not_refused Err accepts (Ok (d, t)) (not_ok (d, t)) (read_cases file places) e in
+        stands Err (file_cases file) (none_first (file_cases file) (place_cases file places) none.0) accepts ∙ none.1
 
-    pub still_refused : (r : Refusal) → judged file ≡ Refused r → read_answer file places ≡ Refused r
+    pub still_refused : (r : Refusal) → judged file ≡ Err r → read_answer file places ≡ Err r
     unfolding judged read_answer
     still_refused r e =
-        let given = refusing Refused accepts (apart (values_in file) (count_in file)) same (file_cases file) r e in
-        refuses_first Refused (file_cases file) (place_cases file places) r given accepts
+        let given = refusing Err accepts (not_ok (values_in file, count_in file)) same_err (file_cases file) r e in
+        refuses_first Err (file_cases file) (place_cases file places) r given accepts

@@ -7,7 +7,8 @@ use lib.ListN.{length}
 use contract.Lifetimes.{Lfts}
 use denote.Triple.Entry.{Args}
 use denote.Triple.Clauses.{AtExit}
-use Rattle.files.specs.declared.NextRow.{NextRow}
+use Rattle.std.specs.Prelude.{Option}
+use Rattle.sets.specs.declared.Row.{Row}
 use Rattle.files.specs.declared.reader.Reader.{Reader}
 use Rattle.files.specs.RowByRow.{step_at, cursor, handed_out, moved}
 use Rattle.files.proofs.Determined.{Makes, Hands}
@@ -23,7 +24,7 @@ pub record Made (file : List ℕ) (r : Reader) : Type 0 where
   pub lends : args.0.now ≡ file
 
 -- what may come of `Reader::next` on a reader: a row, and the reader as it then is
-pub record Stepped (r : Reader) (x : NextRow) (r' : Reader) : Type 0 where
+pub record Stepped (r : Reader) (x : Option Row) (r' : Reader) : Type 0 where
   pub κs : Lfts 2
   pub args : Args next.signature κs
   pub exit : AtExit next.ended κs
@@ -32,20 +33,20 @@ pub record Stepped (r : Reader) (x : NextRow) (r' : Reader) : Type 0 where
   pub after : r' ≡ exit.0.now
 
 -- the rows handed out so far, the last first
-pub data Handing (file : List ℕ) : List NextRow → Reader → Type 0 where
+pub data Handing (file : List ℕ) : List (Option Row) → Reader → Type 0 where
   made : {r : Reader} → Made file r → Handing file [] r
-  stepped : {said : List NextRow} {r r' : Reader} {x : NextRow} → Handing file said r → Stepped r x r' → Handing file (x ∷ said) r'
+  stepped : {said : List (Option Row)} {r r' : Reader} {x : Option Row} → Handing file said r → Stepped r x r' → Handing file (x ∷ said) r'
 
-unfoldable pub first_rows : List ℕ → ℕ → List NextRow
+unfoldable pub first_rows : List ℕ → ℕ → List (Option Row)
 first_rows file zero = []
 first_rows file (suc n) = handed_out file n ∷ first_rows file n
 
-pub record Standing (file : List ℕ) (said : List NextRow) (r : Reader) : Type 0 where
+pub record Standing (file : List ℕ) (said : List (Option Row)) (r : Reader) : Type 0 where
   pub rows : said ≡ first_rows file (length said)
   pub over : r.file.now ≡ file
   pub place : r.at ≡ cursor file (length said)
 
-pub run_hands_out : {file : List ℕ} {said : List NextRow} {r : Reader} → Handing file said r → Standing file said r
+pub run_hands_out : {file : List ℕ} {said : List (Option Row)} {r : Reader} → Handing file said r → Standing file said r
 unfolding first_rows cursor
 run_hands_out (made m) = record { rows = refl; over = ap (λ x. x.now) m.admitted.0 ∙ m.lends; place = m.admitted.1 }
 run_hands_out {file} (stepped {said} {r} {r'} {x} run s) =

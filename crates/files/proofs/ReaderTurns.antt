@@ -7,12 +7,11 @@ use native.Mathlib.Numerals.{add-one}
 use native.Mathlib.Omega.{arith}
 use lib.ListN.{length, get_or, drop}
 use borrow.Author.Tests.{lt-ltb, le-ltb}
+use Rattle.std.specs.Prelude.{Ok, Err, Some, None}
 use Rattle.sets.specs.Rows.{row_words, rows_of, as_row}
 use Rattle.sets.proofs.RowValues.{row_again}
 use Rattle.sets.proofs.LentRows.{words-at}
 use Rattle.refusals.specs.declared.Refusal.{Refusal}
-use Rattle.files.specs.declared.Lesson.TheVariants.{Read, Refused}
-use Rattle.files.specs.declared.NextRow.TheVariants.{Cell, NoMore}
 use Rattle.files.specs.declared.Step.{Step}
 use Rattle.files.specs.Rows.{list_to}
 use Rattle.files.specs.Files.{count_in, cell_in}
@@ -23,12 +22,12 @@ use Rattle.files.proofs.ReadFiles.{readable}
 
 -- ---- a file that is read
 
-module _ (file : List ℕ) (d t : ℕ) (read : judged file ≡ Read d t) where
-  within : (k : ℕ) → k < t → step_at file k ≡ record { row = Cell (as_row (cell_in file k)); next = k + 1 }
+module _ (file : List ℕ) (d t : ℕ) (read : judged file ≡ Ok (d, t)) where
+  within : (k : ℕ) → k < t → step_at file k ≡ record { row = Some (as_row (cell_in file k)); next = k + 1 }
   unfolding step_at
   within k h = rw (read, lt-ltb k t h) refl
 
-  past : (k : ℕ) → t ≤ k → step_at file k ≡ record { row = NoMore; next = k }
+  past : (k : ℕ) → t ≤ k → step_at file k ≡ record { row = None; next = k }
   unfolding step_at
   past k h = rw (read, le-ltb k t h) refl
 
@@ -50,20 +49,20 @@ module _ (file : List ℕ) (d t : ℕ) (read : judged file ≡ Read d t) where
       ap (cursor file) e ∙ next (k + t) ∙ ap (λ (m : ℕ). (step_at file m).next) (stays k) ∙ ap (λ (s : Step). s.next) (past t (omega arith))
 
   -- step n hands out the row that `read` writes to place n
-  pub rows_in_turn : (words : List ℕ) (n : ℕ) → n < t → handed_out file n ≡ Cell (as_row (get_or (rows_of (filled file words (Read d t))) n zero))
+  pub rows_in_turn : (words : List ℕ) (n : ℕ) → n < t → handed_out file n ≡ Some (as_row (get_or (rows_of (filled file words (Ok (d, t)))) n zero))
   rows_in_turn words n h =
       let here : n < count_in file = rw (sym (readable file d t read).count) h in
       let long : n < length (list_to (cell_in file) (count_in file)) = omega (arith, here, length_list (cell_in file) (count_in file)) in
       ap (λ (k : ℕ). (step_at file k).row) (counts n (omega arith))
       ∙ ap (λ (s : Step). s.row) (within n h)
-      ∙ ap Cell (sym (ap as_row (words-at (list_to (cell_in file) (count_in file)) (drop (t * row_words) words) n long)
+      ∙ ap Some (sym (ap as_row (words-at (list_to (cell_in file) (count_in file)) (drop (t * row_words) words) n long)
       ∙ row_again (get_or (list_to (cell_in file) (count_in file)) n zero) ∙ ap as_row (list_at (cell_in file) (count_in file) n here)))
 
   -- after T steps there are no more rows, however often it is asked
-  pub then_no_more : (k : ℕ) → handed_out file (k + t) ≡ NoMore
+  pub then_no_more : (k : ℕ) → handed_out file (k + t) ≡ None
   then_no_more k = ap (λ (m : ℕ). (step_at file m).row) (stays k) ∙ ap (λ (s : Step). s.row) (past t (omega arith))
 
 -- over a refused file there is no row at all, from any cursor
-pub refused_no_rows : (file : List ℕ) (r : Refusal) → judged file ≡ Refused r → (k : ℕ) → step_at file k ≡ record { row = NoMore; next = k }
+pub refused_no_rows : (file : List ℕ) (r : Refusal) → judged file ≡ Err r → (k : ℕ) → step_at file k ≡ record { row = None; next = k }
 unfolding step_at
 refused_no_rows file r e k = rw e refl

@@ -4,14 +4,15 @@ use Prim.Native.Nat.{ℕ}
 use mathlib.Core.Path.{◌≡◌, refl}
 use mathlib.Core.List.{List, [], ◌∷◌, ◌++◌}
 use lib.ListN.{take}
+use Rattle.std.specs.Prelude.{Ok}
 use Rattle.sets.specs.Sets.{below}
 use Rattle.refusals.specs.Cases.{decided}
-use Rattle.files.specs.declared.Lesson.TheVariants.{Read}
 use Rattle.files.specs.Bytes.{big}
 use Rattle.files.specs.Rows.{list_to, lowest_to}
 use Rattle.files.specs.Files.{cell_in, cells_in}
 use Rattle.files.specs.FileCases.{front_cases, row_cases}
-use Rattle.files.specs.Reading.{number_of, read_answer}
+use Rattle.refusals.specs.Refusals.{number_of}
+use Rattle.files.specs.Reading.{read_answer}
 
 -- a row of one byte's value, in 8 bytes
 row : ℕ → List ℕ
@@ -21,7 +22,7 @@ pub request_file : List ℕ
 request_file = 0x50 ∷ 0x56 ∷ 0x54 ∷ 0x00 ∷ 0x01 ∷ 0x04 ∷ 0x00 ∷ 0x03 ∷ [] ++ row 3 ++ row 0 ++ row 4
 
 -- d is 4 and T is 3, into a list of 3 places
-pub request_file_read : read_answer request_file 3 ≡ Read 4 3
+pub request_file_read : read_answer request_file 3 ≡ Ok (4, 3)
 unfolding request_file row read_answer decided front_cases row_cases big below lowest_to
 request_file_read = refl
 

@@ -7,14 +7,13 @@ use native.Mathlib.Omega.{arith}
 use lib.ListN.{length, take, drop}
 use lib.Seq.{take_at}
 use borrow.Author.Tests.{not-false}
+use Rattle.std.specs.Prelude.{Ok}
 use Rattle.sets.specs.Limits.{most_rows}
 use Rattle.sets.specs.Sets.{below, within}
 use Rattle.sets.specs.Rows.{row_words, rows_of, in_words}
 use Rattle.sets.proofs.BadRows.{AllWithin, none_bad}
 use Rattle.sets.proofs.LentRows.{rows_append, words-length, rows_words}
 use Rattle.refusals.proofs.TablesJudged.{TableRight, parts_right}
-use Rattle.files.specs.declared.Lesson.TheVariants.{Read}
-use Rattle.files.specs.declared.Saved.TheVariants.{Length}
 use Rattle.files.specs.Files.{values_in, count_in, row_in, cell_in, cells_in}
 use Rattle.files.specs.Reading.{judged, filled}
 use Rattle.files.specs.Writing.{write_answer}
@@ -25,7 +24,7 @@ use Rattle.files.proofs.ReadFiles.{Readable, readable}
 use Rattle.files.proofs.TablesSaved.{saved}
 use Rattle.files.proofs.ReadBack.{right_narrow}
 
-module _ (file : List ℕ) (d t : ℕ) (read : judged file ≡ Read d t) where
+module _ (file : List ℕ) (d t : ℕ) (read : judged file ≡ Ok (d, t)) where
   facts : Readable file d t
   facts = readable file d t read
 
@@ -58,7 +57,7 @@ module _ (file : List ℕ) (d t : ℕ) (read : judged file ≡ Read d t) where
   }
 
   -- the list that it is read into has these rows in front
-  pub rows_read : (list : List ℕ) → take t (rows_of (filled file list (Read d t))) ≡ cells_in file
+  pub rows_read : (list : List ℕ) → take t (rows_of (filled file list (Ok (d, t)))) ≡ cells_in file
   rows_read list =
       let rows = cells_in file in
       let rest = drop (t * row_words) list in
@@ -67,7 +66,7 @@ module _ (file : List ℕ) (d t : ℕ) (read : judged file ≡ Read d t) where
       ∙ take_at rows (rows_of rest) t rows_count
 
   -- and saved it takes as many bytes as the file has
-  pub read_saved : (room : ℕ) → length file ≤ room → write_answer d (cells_in file) room ≡ Length (length file)
+  pub read_saved : (room : ℕ) → length file ≤ room → write_answer d (cells_in file) room ≡ Ok (length file)
   read_saved room h =
       saved d (cells_in file) room (parts_right most_rows d (cells_in file) read_right) t (sym rows_count) (omega (arith, h, facts.whole))
-      ∙ ap Length (sym facts.whole)
+      ∙ ap Ok (sym facts.whole)

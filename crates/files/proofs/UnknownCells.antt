@@ -10,11 +10,11 @@ use lib.ListN.{length, replicate, length-replicate, get_or-replicate}
 use lib.Pow.{pow_pos}
 use lib.Seq.{ext_get_or}
 use borrow.Author.Tests.{le-ltb}
+use Rattle.std.specs.Prelude.{Ok, Err}
 use Rattle.sets.specs.Sets.{has, all, below}
 use Rattle.sets.proofs.ValuesBelow.{all-has, has_all, less_below}
 use Rattle.refusals.specs.declared.Refusal.TheVariants.{FewPlaces}
 use Rattle.refusals.proofs.Outcomes.{stands}
-use Rattle.files.specs.declared.Lesson.TheVariants.{Read, Refused}
 use Rattle.files.specs.Files.{values_in, count_in, row_in, cell_in, cells_in}
 use Rattle.files.specs.FileCases.{file_cases}
 use Rattle.files.specs.Reading.{judged, read_answer}
@@ -40,15 +40,15 @@ module _ (file : List ℕ) (header : HeaderRight file) (whole : length file ≡ 
         ap not (ap (below (values_in file)) (unknown i h) ∙ less_below (values_in file) zero (pow_pos (values_in file))));
   }
 
-  read : judged file ≡ Read (values_in file) (count_in file)
+  read : judged file ≡ Ok (values_in file, count_in file)
   unfolding judged
-  read = stands Refused (file_cases file) (right_none file right) (Read (values_in file) (count_in file))
+  read = stands Err (file_cases file) (right_none file right) (Ok (values_in file, count_in file))
 
-  pub all_unknown_read : (places : ℕ) → count_in file ≤ places → read_answer file places ≡ Read (values_in file) (count_in file)
+  pub all_unknown_read : (places : ℕ) → count_in file ≤ places → read_answer file places ≡ Ok (values_in file, count_in file)
   all_unknown_read places h =
       let t = count_in file in
       then_places file places (values_in file) t read
-      ∙ ap (λ (b : Bool). cond b (Refused FewPlaces) (Read (values_in file) t)) (le-ltb places t h)
+      ∙ ap (λ (b : Bool). cond b (Err FewPlaces) (Ok (values_in file, t))) (le-ltb places t h)
 
   pub all_unknown_full : cells_in file ≡ replicate (count_in file) (all (values_in file))
   all_unknown_full =

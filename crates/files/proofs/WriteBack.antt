@@ -7,10 +7,9 @@ use mathlib.Core.List.{List, ◌++◌}
 use native.Mathlib.Omega.{arith}
 use lib.ListN.{length, get_or, take, drop}
 use lib.Seq.{take_all, take_at, take-add}
+use Rattle.std.specs.Prelude.{Ok}
 use Rattle.sets.specs.Sets.{all}
 use Rattle.sets.specs.Rows.{rows_of}
-use Rattle.files.specs.declared.Lesson.TheVariants.{Read}
-use Rattle.files.specs.declared.Saved.TheVariants.{Length}
 use Rattle.files.specs.Bytes.{big, in_bytes, AreBytes}
 use Rattle.files.specs.Files.{count_in, row_in, cell_in, cells_in}
 use Rattle.files.specs.Reading.{judged, read_answer, filled}
@@ -46,7 +45,7 @@ module _ (t : ℕ) (a b : List ℕ) (headers : take 8 a ≡ take 8 b) (rows : (i
   same_files : length a ≡ 8 + 8 * t → length b ≡ 8 + 8 * t → a ≡ b
   same_files p q = sym (take_all (8 + 8 * t) a (omega arith)) ∙ fronts t (omega arith) ∙ take_all (8 + 8 * t) b (omega arith)
 
-module _ (file : List ℕ) (d t : ℕ) (bytes : AreBytes file) (read : judged file ≡ Read d t) where
+module _ (file : List ℕ) (d t : ℕ) (bytes : AreBytes file) (read : judged file ≡ Ok (d, t)) where
   facts : Readable file d t
   facts = readable file d t read
 
@@ -89,21 +88,21 @@ module _ (file : List ℕ) (d t : ℕ) (bytes : AreBytes file) (read : judged fi
 
 -- ---- read into a list, and written to a buffer
 
-module _ (file list buffer : List ℕ) (d t : ℕ) (answer : read_answer file (length (rows_of list)) ≡ Read d t) (room : length file ≤ length buffer) where
+module _ (file list buffer : List ℕ) (d t : ℕ) (answer : read_answer file (length (rows_of list)) ≡ Ok (d, t)) (room : length file ≤ length buffer) where
   abbrev rows : List ℕ
-  rows = take t (rows_of (filled file list (Read d t)))
+  rows = take t (rows_of (filled file list (Ok (d, t))))
 
   abbrev written : List ℕ
-  written = take (length file) (buffer_after d rows buffer (Length (length file)))
+  written = take (length file) (buffer_after d rows buffer (Ok (length file)))
 
-  read : judged file ≡ Read d t
+  read : judged file ≡ Ok (d, t)
   read = read_judged file (length (rows_of list)) d t answer
 
   rows_are : rows ≡ cells_in file
   rows_are = rows_read file d t read list
 
   -- as many bytes as the file has, whichever cells are unknown
-  pub saved_as_long : write_answer d rows (length buffer) ≡ Length (length file)
+  pub saved_as_long : write_answer d rows (length buffer) ≡ Ok (length file)
   saved_as_long = ap (λ (l : List ℕ). write_answer d l (length buffer)) rows_are ∙ read_saved file d t read (length buffer) room
 
   -- 'The writer keeps writing full sets as their bits'
@@ -117,11 +116,11 @@ module _ (file list buffer : List ℕ) (d t : ℕ) (answer : read_answer file (l
   pub reading_it_again : ReadAs d rows written
   reading_it_again = reading_what_was_written d rows buffer (length file) saved_as_long
 
-pub writing_what_was_read : (file list buffer : List ℕ) (d t : ℕ) → AreBytes file → read_answer file (length (rows_of list)) ≡ Read d t
+pub writing_what_was_read : (file list buffer : List ℕ) (d t : ℕ) → AreBytes file → read_answer file (length (rows_of list)) ≡ Ok (d, t)
     → ((i : ℕ) → i < t → row_in file i ≢ 0) → length file ≤ length buffer
-    → let rows = take t (rows_of (filled file list (Read d t))) in
-    (write_answer d rows (length buffer) ≡ Length (length file))
-    × (buffer_after d rows buffer (Length (length file)) ≡ file ++ drop (length file) buffer)
+    → let rows = take t (rows_of (filled file list (Ok (d, t)))) in
+    (write_answer d rows (length buffer) ≡ Ok (length file))
+    × (buffer_after d rows buffer (Ok (length file)) ≡ file ++ drop (length file) buffer)
 writing_what_was_read file list buffer d t bytes answer known room =
     let read = read_judged file (length (rows_of list)) d t answer in (
       saved_as_long file list buffer d t answer room,

@@ -1,12 +1,10 @@
 -- What is written of a table, and what is answered (wish 1, 'Teachers want to save a table').
-use Rattle.std.specs.Prelude.{ℕ, zero, ◌+◌, ◌*◌, List, [], ◌∷◌, ◌++◌, ltb, length, drop}
+use Rattle.std.specs.Prelude.{ℕ, ◌+◌, ◌*◌, List, [], ◌∷◌, ◌++◌, ltb, length, drop, Result, Ok, Err}
 use Rattle.sets.specs.Limits.{most_rows}
 use Rattle.refusals.specs.declared.Refusal.TheVariants.{ShortBuffer}
-use Rattle.refusals.specs.Refusals.{number, row}
 use Rattle.refusals.specs.Cases.{Case, ◌gives◌, decided}
 use Rattle.refusals.specs.TableCases.{table_cases}
-use Rattle.files.specs.declared.Saved.{Saved}
-use Rattle.files.specs.declared.Saved.TheVariants.{Length, Refused}
+use Rattle.refusals.specs.declared.Refusal.{Refusal}
 use Rattle.files.specs.Bytes.{in_bytes}
 
 -- ---- 'a table goes out as a version 1 file' (the request, 'Lesson files')
@@ -23,17 +21,6 @@ row_bytes (r ∷ rows) = in_bytes 8 r ++ row_bytes rows
 unfoldable pub file_of : ℕ → List ℕ → List ℕ
 file_of d table = header d (length table) ++ row_bytes table
 
--- ---- an answer by the request's numbers
-
--- a table that is saved has no refusal number
-abbrev pub number_of : Saved → ℕ
-number_of (Length n) = zero
-number_of (Refused r) = number r
-
-abbrev pub row_of : Saved → ℕ
-row_of (Length n) = zero
-row_of (Refused r) = row r
-
 -- ---- what is answered
 
 -- '30 when the buffer has fewer than 8+8T bytes'
@@ -45,10 +32,10 @@ abbrev pub write_cases : ℕ → List ℕ → ℕ → List Case
 write_cases d table room = table_cases most_rows d table ++ room_cases table room
 
 -- 'its length is answered'
-unfoldable pub write_answer : ℕ → List ℕ → ℕ → Saved
-write_answer d table room = decided Refused (write_cases d table room) (Length (8 + 8 * length table))
+unfoldable pub write_answer : ℕ → List ℕ → ℕ → Result ℕ Refusal
+write_answer d table room = decided Err (write_cases d table room) (Ok (8 + 8 * length table))
 
 -- 'into a lent buffer, bytes beyond the file unchanged'; a refusal 'writes to no lent memory'
-abbrev pub buffer_after : ℕ → List ℕ → List ℕ → Saved → List ℕ
-buffer_after d table buffer (Length n) = file_of d table ++ drop n buffer
-buffer_after d table buffer (Refused r) = buffer
+abbrev pub buffer_after : ℕ → List ℕ → List ℕ → Result ℕ Refusal → List ℕ
+buffer_after d table buffer (Ok n) = file_of d table ++ drop n buffer
+buffer_after d table buffer (Err r) = buffer

@@ -1,58 +1,52 @@
 // Refusals 20 to 26, and 29: what the file alone decides.
 ghost use Rattle.std.specs.Prelude.{◌≡◌, ◌≤◌, ◌+◌, ◌*◌, length};
 ghost use Rattle.refusals.specs.Cases.{decided};
-ghost use Rattle.files.specs.declared.Lesson.TheVariants.{Read, Refused};
 ghost use Rattle.files.specs.Files.{values_in, count_in};
 ghost use Rattle.files.specs.FileCases.{row_cases};
 ghost use Rattle.files.specs.Reading.{judged};
 
-use crate::{Lesson, numbers};
+use crate::numbers;
 use refusals::Refusal;
-use sets::Found;
 use sheet::Sheet;
 
 // The rows of a file that has them all: refusal 26.
-fn judge_rows(file: &[u8], d: usize, t: usize) -> Lesson
+fn judge_rows(file: &[u8], d: usize, t: usize) -> Result<(usize, usize), Refusal>
     requires { (d ≡ values_in file.now) × (t ≡ count_in file.now) × (8 + 8 * t ≤ length file.now) }
-    ensures { result ≡ decided Refused (row_cases file.now) (Read d t) }
+    ensures { result ≡ decided Err (row_cases file.now) (Ok (d, t)) }
 {
-    let over = numbers::over(file, d, t);
-    match over {
-        Found::At(i) => Lesson::Refused(Refusal::RowOver(i)),
-        Found::Nothing => Lesson::Read(d, t),
+    match numbers::over(file, d, t) {
+        Some(i) => Err(Refusal::RowOver(i)),
+        None => Ok((d, t)),
     }
 }
 
 // d and T, or the refusal that is first in their order.
 #[tactic(auto, unfolding(crate::specs::Reading::judged, crate::specs::FileCases::front_cases, refusals::specs::Cases::decided))]
-pub fn judge(file: &[u8]) -> Lesson
+pub fn judge(file: &[u8]) -> Result<(usize, usize), Refusal>
     ensures { result ≡ judged file.now }
 {
     if file.len() < 8 {
-        return Lesson::Refused(Refusal::ShortFile);
+        return Err(Refusal::ShortFile);
     }
     if numbers::big(file, 0, 3) != 0x505654 {
-        return Lesson::Refused(Refusal::WrongMark);
+        return Err(Refusal::WrongMark);
     }
     if numbers::big(file, 3, 2) != 1 {
-        return Lesson::Refused(Refusal::WrongVersion);
+        return Err(Refusal::WrongVersion);
     }
     let d = numbers::big(file, 5, 1) as usize;
-    if d == 0 {
-        return Lesson::Refused(Refusal::BadValues);
-    }
-    if Sheet::VALUES < d {
-        return Lesson::Refused(Refusal::BadValues);
+    if d == 0 || Sheet::VALUES < d {
+        return Err(Refusal::BadValues);
     }
     let t = numbers::big(file, 6, 2) as usize;
     if Sheet::ROWS < t {
-        return Lesson::Refused(Refusal::ManyRows);
+        return Err(Refusal::ManyRows);
     }
     if file.len() < 8 + 8 * t {
-        return Lesson::Refused(Refusal::CutShort);
+        return Err(Refusal::CutShort);
     }
     if 8 + 8 * t < file.len() {
-        return Lesson::Refused(Refusal::LongFile);
+        return Err(Refusal::LongFile);
     }
     judge_rows(file, d, t)
 }

@@ -8,8 +8,7 @@ ghost use Rattle.files.specs.Reading.{read_answer, filled};
 ghost use Rattle.files.specs.RowByRow.{step_at};
 ghost use Rattle.files.specs.Writing.{write_answer, buffer_after};
 
-use refusals::Refusal;
-use refusals::tables::Judged;
+use refusals::{Refusal, tables};
 use sets::Row;
 use sheet::Sheet;
 
@@ -20,31 +19,10 @@ mod writer; // writer.rt: a table's bytes, put into a buffer
 
 pub use reader::{Reader, take};
 
-// A file that is read has d values and T rows.
-#[derive(Clone, Copy)]
-pub enum Lesson {
-    Read(usize, usize),
-    Refused(Refusal),
-}
-
-// A table that is saved takes so many bytes.
-#[derive(Clone, Copy)]
-pub enum Saved {
-    Length(usize),
-    Refused(Refusal),
-}
-
-// What a reader hands out: a row, or that there are no more.
-#[derive(Clone, Copy)]
-pub enum NextRow {
-    Cell(Row),
-    NoMore,
-}
-
-// A row, and the cursor after it.
+// The row that a reader hands out, or that there are no more, and the cursor after it.
 #[derive(Clone, Copy)]
 pub struct Step {
-    pub row: NextRow,
+    pub row: Option<Row>,
     pub next: usize,
 }
 
@@ -54,11 +32,7 @@ fn cell(file: &[u8], d: usize, i: usize) -> Row
     ensures { Holds result (cell_in file.now i) }
 {
     let row = numbers::row(file, i);
-    if row.is_empty() {
-        Row::all(d)
-    } else {
-        row
-    }
+    if row.is_empty() { Row::all(d) } else { row }
 }
 
 // All cells go to the front of the list, which keeps its later places.
@@ -67,73 +41,53 @@ fn fill(file: &[u8], d: usize, t: usize, rows: &mut [u64])
         × (t ≤ length (rows_of rows.old)) }
     ensures { rows.new ≡ in_words (cells_in file.now) ++ drop (t * row_words) rows.old }
 {
-    let mut next: usize = 0;
-    while next < t {
+    for next in 0..t {
         sets::put_row(rows, next, cell(file, d, next));
-        next += 1;
     }
 }
 
 // A lesson file into a lent list: d and T, or the refusal that is first in their order, with nothing written.
-pub fn read(file: &[u8], rows: &mut [u64]) -> Lesson
+pub fn read(file: &[u8], rows: &mut [u64]) -> Result<(usize, usize), Refusal>
     ensures { (result ≡ read_answer file.now (length (rows_of rows.old)))
         × (rows.new ≡ filled file.now rows.old result) }
 {
-    let lesson = judge::judge(file);
-    match lesson {
-        Lesson::Read(d, t) => {
-            if sets::row_count(rows) < t {
-                return Lesson::Refused(Refusal::FewPlaces);
-            }
-            fill(file, d, t, rows);
-            Lesson::Read(d, t)
-        }
-        Lesson::Refused(refusal) => Lesson::Refused(refusal),
+    let (d, t) = judge::judge(file)?;
+    if sets::row_count(rows) < t {
+        return Err(Refusal::FewPlaces);
     }
+    fill(file, d, t, rows);
+    Ok((d, t))
 }
 
 // What stands at a cursor, and where the cursor goes.
+#[tactic(auto, unfolding(crate::specs::RowByRow::step_at))]
 pub fn step_at(file: &[u8], at: usize) -> Step
     ensures { result ≡ step_at file.now at }
 {
-    let lesson = judge::judge(file);
-    match lesson {
-        Lesson::Read(d, t) => {
-            if at < t {
-                return Step {
-                    row: NextRow::Cell(cell(file, d, at)),
-                    next: at + 1,
-                };
-            }
-            Step {
-                row: NextRow::NoMore,
-                next: at,
-            }
-        }
-        Lesson::Refused(_) => Step {
-            row: NextRow::NoMore,
+    match judge::judge(file) {
+        Ok((d, t)) if at < t => Step {
+            row: Some(cell(file, d, at)),
+            next: at + 1,
+        },
+        _ => Step {
+            row: None,
             next: at,
         },
     }
 }
 
 // A table as a lesson file at the front of a lent buffer: the file's length, or the lowest refusal, with nothing written.
-pub fn write(d: usize, table: &[u64], buffer: &mut [u8]) -> Saved
+pub fn write(d: usize, table: &[u64], buffer: &mut [u8]) -> Result<usize, Refusal>
     ensures { (result ≡ write_answer d (rows_of table.now) (length buffer.old))
         × (buffer.new ≡ buffer_after d (rows_of table.now) buffer.old result) }
 {
-    let judged = refusals::tables::judge(table, d, Sheet::ROWS);
-    match judged {
-        Judged::Right => {
-            let t = sets::row_count(table);
-            let length = 8 + 8 * t;
-            if buffer.len() < length {
-                return Saved::Refused(Refusal::ShortBuffer);
-            }
-            writer::put_header(buffer, d, t);
-            writer::put_rows(buffer, table);
-            Saved::Length(length)
-        }
-        Judged::Refused(refusal) => Saved::Refused(refusal),
+    tables::judge(table, d, Sheet::ROWS)?;
+    let t = sets::row_count(table);
+    let length = 8 + 8 * t;
+    if buffer.len() < length {
+        return Err(Refusal::ShortBuffer);
     }
+    writer::put_header(buffer, d, t);
+    writer::put_rows(buffer, table);
+    Ok(length)
 }

@@ -6,7 +6,7 @@ ghost use Rattle.files.specs.Bytes.{big};
 ghost use Rattle.files.specs.Rows.{lowest_to};
 ghost use Rattle.files.specs.Files.{row_in};
 
-use sets::{Found, Row};
+use sets::Row;
 
 // The number in n bytes from a place on, the first byte highest.
 pub fn big(file: &[u8], from: usize, n: usize) -> u64
@@ -14,10 +14,8 @@ pub fn big(file: &[u8], from: usize, n: usize) -> u64
     ensures { result ≡ big file.now from n }
 {
     let mut value: u64 = 0;
-    let mut next: usize = 0;
-    while next < n {
+    for next in 0..n {
         value = value * 256 + file[from + next] as u64;
-        next += 1;
     }
     value
 }
@@ -31,16 +29,14 @@ pub fn row(file: &[u8], i: usize) -> Row
 }
 
 // The lowest of the first n rows that has a value d or above.
-pub fn over(file: &[u8], d: usize, n: usize) -> Found
+pub fn over(file: &[u8], d: usize, n: usize) -> Option<usize>
     requires { 8 + 8 * n ≤ length file.now }
     ensures { result ≡ lowest_to (λ i. not (below d (row_in file.now i))) n }
 {
-    let mut next: usize = 0;
-    while next < n {
+    for next in 0..n {
         if !row(file, next).below(d) {
-            return Found::At(next);
+            return Some(next);
         }
-        next += 1;
     }
-    Found::Nothing
+    None
 }

@@ -2,7 +2,8 @@
 ghost use Rattle.std.specs.Prelude.{◌≡◌};
 ghost use Rattle.files.specs.RowByRow.{step_at, moved};
 
-use crate::{NextRow, Step, step_at};
+use crate::{Step, step_at};
+use sets::Row;
 
 // `at` is the number of the row that is handed out next.
 #[derive(Clone, Copy)]
@@ -20,7 +21,7 @@ impl<'a> Reader<'a> {
     }
 
     // The next row, or that there are no more; the cursor moves on.
-    pub fn next(&mut self) -> NextRow
+    pub fn next(&mut self) -> Option<Row>
         ensures { (result ≡ (step_at self.old.file.now self.old.at).row)
             × (self.new ≡ moved self.old) }
     {

@@ -9,12 +9,10 @@ fn put(buffer: &mut [u8], from: usize, n: usize, value: u64)
     requires { from + n ≤ length buffer.old }
     ensures { buffer.new ≡ take from buffer.old ++ in_bytes n value ++ drop (from + n) buffer.old }
 {
-    let mut left = n;
     let mut rest = value;
-    while 0 < left {
-        buffer[from + (left - 1)] = (rest % 256) as u8;
+    for left in (0..n).rev() {
+        buffer[from + left] = (rest % 256) as u8;
         rest /= 256;
-        left -= 1;
     }
 }
 
@@ -35,11 +33,8 @@ pub fn put_rows(buffer: &mut [u8], table: &[u64])
     ensures { buffer.new ≡ take 8 buffer.old ++ row_bytes (rows_of table.now)
         ++ drop (8 + 8 * length (rows_of table.now)) buffer.old }
 {
-    let n = sets::row_count(table);
-    let mut next: usize = 0;
-    while next < n {
+    for next in 0..sets::row_count(table) {
         let row = sets::row_at(table, next);
         put(buffer, 8 + 8 * next, 8, u64::from(row));
-        next += 1;
     }
 }

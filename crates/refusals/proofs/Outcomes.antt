@@ -74,10 +74,13 @@ module _ {A : Type 0} (refused : Refusal → A) where
       | inr (s, g) ↦ rw (same s r (sym (refuses cs s g a) ∙ e)) at g
     ]
 
--- ---- where the answer is a Result: no refusal is an answer, and different refusals are different results
+-- ---- where the answer is a Result: no refusal is an answer, and different refusals or answers are different results
 
 pub not_ok : {A : Type 0} (a : A) (r : Refusal) → ◌≡◌ {A = Result A Refusal} (Err r) (Ok a) → ⊥
 not_ok a r e = cc
 
 pub same_err : {A : Type 0} (r s : Refusal) → ◌≡◌ {A = Result A Refusal} (Err r) (Err s) → r ≡ s
 same_err r s e = cc
+
+pub same_ok : {A : Type 0} (a b : A) → ◌≡◌ {A = Result A Refusal} (Ok a) (Ok b) → a ≡ b
+same_ok a b e = cc

@@ -14,14 +14,14 @@ use Rattle.files.proofs.judge.judge_rows.Goals as goal
 found-over : (file : List ℕ) (d t : ℕ) → d ≡ values_in file → t ≡ count_in file → row_over file ≡ lowest_to (λ i. not (below d (row_in file i))) t
 found-over file d t values count = sym (λ j. lowest_to (λ i. not (below (values j) (row_in file i))) (count j))
 
-pub returns-in-At : goal.returns-in-At
+pub returns-in-Some : goal.returns-in-Some
 unfolding decided row_cases
-returns-in-At c =
-    let found = sym c.in-At.ensures in
+returns-in-Some c =
+    let found = sym c.in-Some.ensures in
     rw (found-over c.args.file.now c.args.d c.args.t c.requires.0 c.requires.1 ∙ found) refl
 
-pub returns-in-Nothing : goal.returns-in-Nothing
+pub returns-in-None : goal.returns-in-None
 unfolding decided row_cases
-returns-in-Nothing c =
-    let none = sym c.in-Nothing.ensures in
+returns-in-None c =
+    let none = sym c.in-None.ensures in
     rw (found-over c.args.file.now c.args.d c.args.t c.requires.0 c.requires.1 ∙ none) refl

@@ -1,5 +1,5 @@
 -- `big` meets its contract. The invariant: the value is that of the bytes before the next. Assumes nothing.
-use Prim.Native.Nat.{◌-◌, ◌≤◌, ◌<◌}
+use Prim.Native.Nat.{◌≤◌, ◌<◌}
 use mathlib.Core.Path.{◌≡◌}
 use Rattle.files.specs.Bytes.{big}
 use Rattle.files.proofs.ByteLaws.{cap}
@@ -7,6 +7,3 @@ use Rattle.files.proofs.numbers.big.Given as goal
 
 abbrev pub invariant-loop-next : goal.invariant-loop-next
 invariant-loop-next l = (l.next ≤ l.n) × (l.value ≡ big l.file l.from l.next) × (l.value < cap l.next)
-
-abbrev pub decreases-loop-next : goal.decreases-loop-next
-decreases-loop-next l = l.n - l.next

@@ -1,5 +1,5 @@
 -- `over` meets its contract. The invariant: no row before the next has a value d or above. Assumes nothing.
-use Prim.Native.Nat.{◌-◌, ◌≤◌}
+use Prim.Native.Nat.{◌≤◌}
 use mathlib.Core.Path.{◌≡◌}
 use mathlib.Core.Bool.{not}
 use Rattle.std.specs.Prelude.{None}
@@ -10,6 +10,3 @@ use Rattle.files.proofs.numbers.over.Given as goal
 
 abbrev pub invariant-loop-next : goal.invariant-loop-next
 invariant-loop-next l = (l.next ≤ l.n) × (lowest_to (λ i. not (below l.d (row_in l.file i))) l.next ≡ None)
-
-abbrev pub decreases-loop-next : goal.decreases-loop-next
-decreases-loop-next l = l.n - l.next

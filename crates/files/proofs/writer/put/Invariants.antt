@@ -4,6 +4,3 @@ use Rattle.files.proofs.writer.put.Given as goal
 
 abbrev pub invariant-loop-left : goal.invariant-loop-left
 invariant-loop-left l = Putting l.initial.buffer l.from l.n l.value l.left l.rest l.buffer
-
-abbrev pub decreases-loop-left : goal.decreases-loop-left
-decreases-loop-left l = l.left

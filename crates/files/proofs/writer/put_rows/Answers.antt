@@ -9,15 +9,13 @@ use Rattle.files.proofs.writer.put_rows.Goals as goal
 
 pub loop-next-init : goal.loop-next-init
 loop-next-init c =
-    (omega arith, saving_start c.args.buffer.now (rows_of c.args.table.now) (omega (arith, c.requires)))
+    saving_start c.args.buffer.now (rows_of c.args.table.now) (omega (arith, c.requires))
 
 pub loop-next-preserved : goal.loop-next-preserved
 loop-next-preserved c =
     let table = rows_of c.args.table.now in
     let less = c.loop-next-test.true in
-    let here : c.loop-next.next < length table = omega (arith, less, c.row_count-n.ensures) in
-    let same = c.as_word.ensures ∙ c.row_at-row.ensures.0 in (
-      omega (arith, less),
-      saving_next c.args.buffer.now table c.loop-next.next c.as_word.result c.loop-next.buffer _ here c.loop-next.invariant.1 same
-          c.put.ensures,
-    )
+    let here : c.loop-next.next < length table = omega (arith, less, c.row_count-next-end.ensures) in
+    let same = c.from.ensures ∙ c.row_at-row.ensures.0 in
+    saving_next c.args.buffer.now table c.loop-next.next c.from.result c.loop-next.buffer _ here c.loop-next.invariant same
+    c.put.ensures

@@ -1,11 +1,7 @@
 -- `put_rows` meets its contract. The invariant: the rows before the next stand behind the first 8 bytes. Assumes nothing.
-use Prim.Native.Nat.{◌-◌, ◌≤◌}
 use Rattle.sets.specs.Rows.{rows_of}
 use Rattle.files.proofs.Saving.{Saving}
 use Rattle.files.proofs.writer.put_rows.Given as goal
 
 abbrev pub invariant-loop-next : goal.invariant-loop-next
-invariant-loop-next l = (l.next ≤ l.n) × Saving l.initial.buffer (rows_of l.table) l.next l.buffer
-
-abbrev pub decreases-loop-next : goal.decreases-loop-next
-decreases-loop-next l = l.n - l.next
+invariant-loop-next l = Saving l.initial.buffer (rows_of l.table) l.next l.buffer
