@@ -17,18 +17,15 @@ use Rattle.refusals.proofs.Outcomes.{NoneApplies, Gives, stood, refusing, not_ok
 
 -- ---- by the cases of any list
 
--- what is judged: that a table is right, or its refusal
-abbrev Judged : Type 0
-Judged = Result (Unit {0}) Refusal
+-- a judgement alone, with no answer
+abbrev pub judgement : List Case → Result (Unit {0}) Refusal
+judgement cs = decided Err cs (Ok tt)
 
-abbrev right : Judged
-right = Ok tt
+pub judged_right : (cs : List Case) → judgement cs ≡ Ok tt → NoneApplies cs
+judged_right = stood Err (Ok tt) (not_ok tt)
 
-pub judged_right : (cs : List Case) → decided Err cs right ≡ right → NoneApplies cs
-judged_right = stood Err right (not_ok tt)
-
-pub judged_refused : (cs : List Case) (r : Refusal) → decided Err cs right ≡ Err r → Gives cs r
-judged_refused = refusing Err right (not_ok tt) same_err
+pub judged_refused : (cs : List Case) (r : Refusal) → judgement cs ≡ Err r → Gives cs r
+judged_refused = refusing Err (Ok tt) (not_ok tt) same_err
 
 -- ---- by the parts of a table
 

@@ -8,19 +8,22 @@ use native.Mathlib.Omega.{arith}
 use lib.Dec.{eqb, ltb}
 use lib.ListN.{length}
 use borrow.Author.Tests.{ltb-true, eqb-true, ne_eqb}
+use Rattle.std.specs.Prelude.{Result}
 use Rattle.sets.specs.Limits.{most_desks, promised}
 use Rattle.sets.proofs.Bools.{and_left}
 use Rattle.sheet.proofs.UptoLaws.{sum_zero, sum_but_one, sum_most}
+use Rattle.refusals.specs.declared.Refusal.{Refusal}
 use Rattle.store.specs.declared.Call.{Call}
 use Rattle.store.specs.declared.Answer.{Answer}
-use Rattle.store.specs.Answers.{accepted, number_of}
+use Rattle.refusals.specs.Refusals.{number_of}
+use Rattle.store.specs.Answers.{accepted}
 use Rattle.store.specs.Calls.{begun_answer}
 use Rattle.store.specs.Promise.{Turn, Store, own_in, alone, history, mine, held_by, proper_call, proper_insert, Demand3, class_store}
 use Rattle.store.proofs.Judging.{good_parts}
 use Rattle.store.proofs.Told.{ten_is}
 use Rattle.store.proofs.ClassKeeps.{class_keeps}
 
-accepted-not_ten : (a : Answer) → accepted a ≡ true → number_of a ≢ 10
+accepted-not_ten : (a : Result Answer Refusal) → accepted a ≡ true → number_of a ≢ 10
 unfolding accepted
 accepted-not_ten a t e = false≢true (sym (ap accepted (ten_is a e)) ∙ t)
 

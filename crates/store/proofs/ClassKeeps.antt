@@ -8,17 +8,19 @@ use native.Mathlib.Omega.{arith}
 use lib.Dec.{leb, ltb}
 use lib.ListN.{length}
 use borrow.Author.Tests.{ltb-true, lt-ltb, leb-true, leb-false, lt-leb, eqb-true, eq-eqb}
+use Rattle.std.specs.Prelude.{Result, Err}
 use Rattle.sets.specs.Limits.{most_held, most_places, promised}
 use Rattle.sets.proofs.Bools.{and_left, and_right, and_both}
 use Rattle.sheet.specs.declared.Sheet.{Sheet}
 use Rattle.sheet.specs.Sheets.{own, owed, hides}
 use Rattle.sheet.proofs.SoundParts.{Sound, sound_parts}
+use Rattle.refusals.specs.declared.Refusal.{Refusal}
 use Rattle.store.specs.declared.Call.{Call}
 use Rattle.refusals.specs.declared.Refusal.TheVariants.{NoDesk}
 use Rattle.store.specs.declared.Answer.{Answer}
-use Rattle.store.specs.declared.Answer.TheVariants.{Refused}
 use Rattle.refusals.specs.Cases.{◌gives◌, decided}
-use Rattle.store.specs.Answers.{accepted, number_of}
+use Rattle.refusals.specs.Refusals.{number_of}
+use Rattle.store.specs.Answers.{accepted}
 use Rattle.store.specs.Desks.{serve, list_after, telling, written, Told}
 use Rattle.store.specs.Calls.{begun_answer, crowded}
 use Rattle.store.specs.Promise.{Turn, Store, hidden_in, own_in, member, alone, history, held_by, used_by, owed_by}
@@ -65,10 +67,10 @@ module _ {d : ℕ} {table : List ℕ} {desks : ℕ} (good : Good d table desks) 
 
   module _ (t : Turn) where
     -- what is served to desk t .desk as the sheet has it
-    abbrev served : Answer
+    abbrev served : Result Answer Refusal
     served = serve d table (crowded s) (length t.list) (hides s.marks t.desk) (own s t.desk) t.call
 
-    told_here : (tell past t).answer ≡ decided Refused ((leb desks t.desk gives NoDesk) ∷ []) served
+    told_here : (tell past t).answer ≡ decided Err ((leb desks t.desk gives NoDesk) ∷ []) served
     unfolding class_store
     told_here = answered_here good (reached good past) t.desk t.call (length t.list)
 
@@ -115,14 +117,14 @@ module _ {d : ℕ} {table : List ℕ} {desks : ℕ} (good : Good d table desks) 
     h = history tell t.desk past
 
     -- what the desk alone is served
-    abbrev mine : (ℕ → Bool) → List ℕ → Answer
+    abbrev mine : (ℕ → Bool) → List ℕ → Result Answer Refusal
     mine hid rows = serve d table false (length t.list) hid rows t.call
 
-    abbrev mine_alone : Answer
+    abbrev mine_alone : Result Answer Refusal
     mine_alone = mine (member (hidden_in h)) (own_in h)
 
     -- and told of an answer
-    abbrev tells_alone : Answer → Told
+    abbrev tells_alone : Result Answer Refusal → Told
     tells_alone = telling d table (member (hidden_in h)) (own_in h) t.call t.list
 
     told-alone : number_of (tell past t).answer ≢ 10 → tell past t ≡ alone d table desks h t
@@ -151,7 +153,7 @@ module _ {d : ℕ} {table : List ℕ} {desks : ℕ} (good : Good d table desks) 
     ten_writes_nothing : number_of (tell past t).answer ≡ 10 → (tell past t).list ≡ t.list
     unfolding class_store list_after accepted
     ten_writes_nothing e =
-        ap (λ (a : Answer). list_after (written d table (hides s.marks t.desk) (own s t.desk) t.call) a t.list)
+        ap (λ (a : Result Answer Refusal). list_after (written d table (hides s.marks t.desk) (own s t.desk) t.call) a t.list)
         (ten_is (tell past t).answer e)
 
 pub class_keeps : (d : ℕ) (table : List ℕ) (desks : ℕ) → accepted (begun_answer d table desks) ≡ true

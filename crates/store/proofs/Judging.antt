@@ -8,6 +8,7 @@ use native.Mathlib.Omega.{arith}
 use lib.Dec.{eqb, leb, ltb}
 use lib.ListN.{length}
 use borrow.Author.Tests.{ltb-false, leb-false, eqb-false, not-false, le-ltb, ne_eqb}
+use Rattle.std.specs.Prelude.{Result, Ok, Err}
 use Rattle.sets.specs.Rows.{bits}
 use Rattle.sets.specs.Limits.{most_desks, most_held, most_places, most_rows, promised}
 use Rattle.sets.specs.Sets.{within}
@@ -23,10 +24,11 @@ use Rattle.store.specs.declared.Change.TheVariants.{Delete, Insert, Reset}
 use Rattle.refusals.specs.declared.Refusal.{Refusal}
 use Rattle.refusals.specs.declared.Refusal.TheVariants.{NoRow, HiddenAlready, BadSet, Full, NoRoom}
 use Rattle.store.specs.declared.Answer.{Answer}
-use Rattle.store.specs.declared.Answer.TheVariants.{Done, Refused}
+use Rattle.store.specs.declared.Answer.TheVariants.{Done}
 use Rattle.refusals.specs.Refusals.{number}
 use Rattle.refusals.specs.Cases.{Case, ◌gives◌, decided}
-use Rattle.store.specs.Answers.{accepted, number_of}
+use Rattle.refusals.specs.Refusals.{number_of}
+use Rattle.store.specs.Answers.{accepted}
 use Rattle.store.specs.Desks.{serve}
 use Rattle.refusals.specs.TableCases.{table_cases}
 use Rattle.refusals.proofs.Outcomes.{NoneApplies, outcome, stands, refuses}
@@ -34,39 +36,39 @@ use Rattle.refusals.proofs.TablesJudged.{TableRight, right_parts, parts_right, o
 use Rattle.store.specs.Calls.{begin_cases, begun_answer, crowded}
 
 -- where the answer accepts, the first case does not apply
-pub passed : (b : Bool) (r : Refusal) (cs : List Case) (a : Answer) → accepted (decided Refused ((b gives r) ∷ cs) a) ≡ true
-    → (b ≡ false) × (accepted (decided Refused cs a) ≡ true)
+pub passed : (b : Bool) (r : Refusal) (cs : List Case) (a : Result Answer Refusal) → accepted (decided Err ((b gives r) ∷ cs) a) ≡ true
+    → (b ≡ false) × (accepted (decided Err cs a) ≡ true)
 unfolding decided accepted
 passed true r cs a t = absurd (false≢true t)
 passed false r cs a t = (refl, t)
 
 -- one case, and whether it applies
-pub given : (b : Bool) (r : Refusal) (a : Answer) → b ≡ true → decided Refused ((b gives r) ∷ []) a ≡ Refused r
+pub given : (b : Bool) (r : Refusal) (a : Result Answer Refusal) → b ≡ true → decided Err ((b gives r) ∷ []) a ≡ Err r
 unfolding decided
 given b r a e = rw e
 
-pub not_given : (b : Bool) (r : Refusal) (a : Answer) → b ≡ false → decided Refused ((b gives r) ∷ []) a ≡ a
+pub not_given : (b : Bool) (r : Refusal) (a : Result Answer Refusal) → b ≡ false → decided Err ((b gives r) ∷ []) a ≡ a
 unfolding decided
 not_given b r a e = rw e
 
 -- where the answer's number is x: a first case of another number does not apply, and the one case does where the answer behind it has another number
-pub skipped : (x : ℕ) (b : Bool) (r : Refusal) (cs : List Case) (a : Answer) → number r ≢ x → number_of (decided Refused ((b gives r) ∷ cs) a) ≡ x
-    → (b ≡ false) × (number_of (decided Refused cs a) ≡ x)
+pub skipped : (x : ℕ) (b : Bool) (r : Refusal) (cs : List Case) (a : Result Answer Refusal) → number r ≢ x → number_of (decided Err ((b gives r) ∷ cs) a) ≡ x
+    → (b ≡ false) × (number_of (decided Err cs a) ≡ x)
 unfolding decided
 skipped x true r cs a ne e = absurd (ne e)
 skipped x false r cs a ne e = (refl, e)
 
-pub applied : (x : ℕ) (b : Bool) (r : Refusal) (a : Answer) → number_of a ≢ x → number_of (decided Refused ((b gives r) ∷ []) a) ≡ x → b ≡ true
+pub applied : (x : ℕ) (b : Bool) (r : Refusal) (a : Result Answer Refusal) → number_of a ≢ x → number_of (decided Err ((b gives r) ∷ []) a) ≡ x → b ≡ true
 unfolding decided
 applied x true r a ne e = refl
 applied x false r a ne e = absurd (ne e)
 
 -- where the answer accepts, no case applies
-pub none_apply : (cs : List Case) (a : Answer) → accepted (decided Refused cs a) ≡ true → NoneApplies cs
+pub none_apply : (cs : List Case) (a : Result Answer Refusal) → accepted (decided Err cs a) ≡ true → NoneApplies cs
 unfolding accepted
 none_apply cs a t = elim (outcome cs) [
   | inl none ↦ none
-  | inr (r, g) ↦ absurd (false≢true (ap accepted (sym (refuses Refused cs r g a)) ∙ t))
+  | inr (r, g) ↦ absurd (false≢true (ap accepted (sym (refuses Err cs r g a)) ∙ t))
 ]
 
 -- ---- begin
@@ -79,7 +81,7 @@ pub record Good (d : ℕ) (table : List ℕ) (desks : ℕ) : Type 0 where
 pub good_parts : (d : ℕ) (table : List ℕ) (desks : ℕ) → accepted (begun_answer d table desks) ≡ true → Good d table desks
 unfolding begun_answer table_cases
 good_parts d table desks t =
-    let none = none_apply (begin_cases d table desks) Done t in
+    let none = none_apply (begin_cases d table desks) (Ok Done) t in
     let number = or_no (eqb desks zero) (ltb most_desks desks) none.1.1.0 in
     let desks-not : desks ≡ zero → ⊥ = eqb-false desks zero number.0 in
     record
@@ -91,7 +93,7 @@ parts_good {d} {table} {desks} g =
     let none = parts_right most_rows d table g.right in
     let there : (eqb desks zero || ltb most_desks desks) ≡ false
     = rw (ne_eqb desks zero (λ e. absurd (omega (arith, g.some_desk))), le-ltb most_desks desks g.few_desks) refl in
-    ap accepted (stands Refused (begin_cases d table desks) (none.0, (none.1.0, (there, tt))) Done)
+    ap accepted (stands Err (begin_cases d table desks) (none.0, (none.1.0, (there, tt))) (Ok Done))
 
 -- ---- a call
 
@@ -112,13 +114,13 @@ pub allowed : (d : ℕ) (table : List ℕ) (full : Bool) (places : ℕ) (hid : �
     → Allowed d (length table) full own c
 unfolding serve
 allowed d table full places hid own (Do (Delete (Table n))) t =
-    leb-false (length table) n (passed (leb (length table) n) NoRow ((hid n gives HiddenAlready) ∷ []) Done t).0
-allowed d table full places hid own (Do (Delete (Own n))) t = leb-false (length own) n (passed (leb (length own) n) NoRow [] Done t).0
+    leb-false (length table) n (passed (leb (length table) n) NoRow ((hid n gives HiddenAlready) ∷ []) (Ok Done) t).0
+allowed d table full places hid own (Do (Delete (Own n))) t = leb-false (length own) n (passed (leb (length own) n) NoRow [] (Ok Done) t).0
 allowed d table full places hid own (Do (Insert row)) t =
     let room : List Case = ((leb promised (length own) && full) gives NoRoom) ∷ [] in
-    let one = passed (not (within d (bits row))) BadSet ((leb most_held (length own) gives Full) ∷ room) Done t in
-    let two = passed (leb most_held (length own)) Full room Done one.1 in
-    let three = passed (leb promised (length own) && full) NoRoom [] Done two.1 in (
+    let one = passed (not (within d (bits row))) BadSet ((leb most_held (length own) gives Full) ∷ room) (Ok Done) t in
+    let two = passed (leb most_held (length own)) Full room (Ok Done) one.1 in
+    let three = passed (leb promised (length own) && full) NoRoom [] (Ok Done) two.1 in (
       not-false (within d (bits row)) one.0,
       leb-false most_held (length own) two.0,
       λ e. leb-false promised (length own) (and_no (leb promised (length own)) full three.0 e),

@@ -7,19 +7,20 @@ use native.Mathlib.Decide.{ℕ_discrete}
 use native.Mathlib.Omega.{arith}
 use lib.Dec.{eqb}
 use lib.ListN.{length}
+use Rattle.std.specs.Prelude.{Err}
 use Rattle.sets.specs.Limits.{promised}
 use Rattle.sheet.proofs.UptoLaws.{sum_ext}
 use Rattle.store.specs.declared.Call.{Call}
 use Rattle.refusals.specs.declared.Refusal.TheVariants.{NoRoom}
-use Rattle.store.specs.declared.Answer.TheVariants.{Refused}
-use Rattle.store.specs.Answers.{accepted, number_of}
+use Rattle.refusals.specs.Refusals.{number_of}
+use Rattle.store.specs.Answers.{accepted}
 use Rattle.store.specs.Desks.{Told}
 use Rattle.store.specs.Promise.{Turn, Store, own_in, alone, history, held_by, used_by, owed_by, Demand3}
 use Rattle.store.proofs.Told.{ten_is}
 
 -- refusal 10 as it is told
 told_ten : {d : ℕ} {table : List ℕ} {desks : ℕ} {tell : Store} → Demand3 d table desks tell → (past : List Turn) (t : Turn)
-    → number_of (tell past t).answer ≡ 10 → tell past t ≡ record { answer = Refused NoRoom; list = t.list }
+    → number_of (tell past t).answer ≡ 10 → tell past t ≡ record { answer = Err NoRoom; list = t.list }
 told_ten {tell = tell} keeps past t e = λ i. record { answer = ten_is (tell past t).answer e i; list = keeps.no_room_list past t e i }
 
 -- after like histories, desks hold as many rows, and as many places are used and owed

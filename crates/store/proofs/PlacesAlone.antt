@@ -18,7 +18,8 @@ use Rattle.store.specs.declared.Call.{Call}
 use Rattle.store.specs.declared.Call.TheVariants.{Do}
 use Rattle.store.specs.declared.Change.TheVariants.{Insert}
 use Rattle.refusals.specs.Cases.{decided}
-use Rattle.store.specs.Answers.{accepted, number_of}
+use Rattle.refusals.specs.Refusals.{number_of}
+use Rattle.store.specs.Answers.{accepted}
 use Rattle.store.specs.Desks.{serve, Told}
 use Rattle.store.specs.Calls.{begun_answer}
 use Rattle.store.specs.Promise.{Turn, Store, own_in, alone, history, held_by, used_by, Demand3}

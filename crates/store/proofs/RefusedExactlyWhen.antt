@@ -7,6 +7,7 @@ use mathlib.Core.Bool.{Bool, false, ◌||◌}
 use mathlib.Core.List.{List, [], ◌∷◌, ◌++◌, append_assoc}
 use native.Mathlib.Omega.{arith}
 use lib.Dec.{eqb, ltb}
+use Rattle.std.specs.Prelude.{Result, Ok, Err}
 use Rattle.sets.specs.Limits.{most_rows, most_desks}
 use Rattle.sets.proofs.Bools.{not_both}
 use Rattle.sets.proofs.BadRows.{LowestBad}
@@ -18,14 +19,15 @@ use Rattle.refusals.proofs.GivenExactlyWhen.{given_exactly_when}
 use Rattle.refusals.proofs.RowsReturned.{table_rising, lowest_bad_row, no_row}
 use Rattle.sheet.specs.declared.Sheet.{Sheet}
 use Rattle.sheet.specs.Sheets.{own, hides}
+use Rattle.refusals.specs.declared.Refusal.{Refusal}
 use Rattle.store.specs.declared.Target.TheVariants.{Table, Own}
 use Rattle.store.specs.declared.Call.{Call}
 use Rattle.store.specs.declared.Call.TheVariants.{Do, Ask}
 use Rattle.store.specs.declared.Change.TheVariants.{Delete, Insert, Reset}
 use Rattle.store.specs.declared.Question.TheVariants.{Look, Count, Distinct}
 use Rattle.store.specs.declared.Answer.{Answer}
-use Rattle.store.specs.declared.Answer.TheVariants.{Done, Refused}
-use Rattle.store.specs.Answers.{number_of, row_of}
+use Rattle.store.specs.declared.Answer.TheVariants.{Done}
+use Rattle.refusals.specs.Refusals.{number_of, row_of}
 use Rattle.store.specs.Desks.{call_cases, granted, serve}
 use Rattle.store.specs.Calls.{begin_cases, begun_answer, sheet_cases, crowded, all_cases, answered}
 
@@ -37,14 +39,14 @@ module _ (d : ℕ) (table : List ℕ) (desks : ℕ) where
 
   pub begin_exactly_when : (n : ℕ) → 0 < n → (number_of (begun_answer d table desks) ≡ n) ↔ Given (begin_cases d table desks) n
   unfolding begun_answer
-  begin_exactly_when = given_exactly_when Refused number_of (λ r. refl) Done refl 0 (begin_cases d table desks)
+  begin_exactly_when = given_exactly_when Err number_of (λ r. refl) (Ok Done) refl 0 (begin_cases d table desks)
       (table_rising most_rows d table desk_number (omega arith, tt))
 
   -- with 2 'the lowest such row'
   pub begin_bad_row : number_of (begun_answer d table desks) ≡ 2 → LowestBad d table (row_of (begun_answer d table desks))
   unfolding begun_answer
   begin_bad_row e =
-      let given = lowest_bad_row Refused number_of (λ r. refl) Done most_rows d table desk_number (omega arith, tt) refl e in
+      let given = lowest_bad_row Err number_of (λ r. refl) (Ok Done) most_rows d table desk_number (omega arith, tt) refl e in
       rw (ap row_of given.1) given.2
 
   -- and 0 with any other number
@@ -54,7 +56,7 @@ module _ (d : ℕ) (table : List ℕ) (desks : ℕ) where
 
   pub begin_no_row : number_of (begun_answer d table desks) ≢ 2 → row_of (begun_answer d table desks) ≡ 0
   unfolding begun_answer
-  begin_no_row not-2 = no_row Refused number_of (λ r. refl) Done row_of (λ r. refl) refl (begin_cases d table desks) not-2
+  begin_no_row not-2 = no_row Err number_of (λ r. refl) (Ok Done) row_of (λ r. refl) refl (begin_cases d table desks) not-2
       (λ e. not_both ((begin_exactly_when 26 (omega arith)).0 e).0 never_26)
 
 -- ---- a desk's call
@@ -64,25 +66,18 @@ module _ (d : ℕ) (table : List ℕ) (s : Sheet) (k : ℕ) (c : Call) (places :
   hid = hides s.marks k
 
   -- the answer where no case applies
-  abbrev grants : Answer
-  grants = granted d table (crowded s) places hid (own s k) c
+  abbrev grants : Result Answer Refusal
+  grants = Ok (granted d table (crowded s) places hid (own s k) c)
 
   abbrev later_cases : List Case
   later_cases = sheet_cases d table s k ++ call_cases d table (crowded s) places hid (own s k) c
 
   -- the answer is decided by all cases in one list
-  by_cases : answered d table s k c places ≡ decided Refused (all_cases d table s k c places) grants
+  by_cases : answered d table s k c places ≡ decided Err (all_cases d table s k c places) grants
   unfolding answered serve
   by_cases =
-      chained Refused (table_cases most_rows d table ++ sheet_cases d table s k) (call_cases d table (crowded s) places hid (own s k) c) grants
-      ∙ ap (λ (cs : List Case). decided Refused cs grants) (append_assoc (table_cases most_rows d table) (sheet_cases d table s k) _)
-
-  accepts : (c : Call)
-      → (number_of (granted d table (crowded s) places hid (own s k) c) ≡ 0) × (row_of (granted d table (crowded s) places hid (own s k) c) ≡ 0)
-  accepts (Do c) = (refl, refl)
-  accepts (Ask (Look n)) = (refl, refl)
-  accepts (Ask Count) = (refl, refl)
-  accepts (Ask Distinct) = (refl, refl)
+      chained Err (table_cases most_rows d table ++ sheet_cases d table s k) (call_cases d table (crowded s) places hid (own s k) c) grants
+      ∙ ap (λ (cs : List Case). decided Err cs grants) (append_assoc (table_cases most_rows d table) (sheet_cases d table s k) _)
 
   call_rising : (c : Call) → Rising 5 (call_cases d table (crowded s) places hid (own s k) c)
   call_rising (Do (Delete (Table n))) = (omega arith, (omega arith, tt))
@@ -98,13 +93,13 @@ module _ (d : ℕ) (table : List ℕ) (s : Sheet) (k : ℕ) (c : Call) (places :
   later_rising = (omega arith, (omega arith, (omega arith, call_rising c)))
 
   pub call_exactly_when : (n : ℕ) → 0 < n → (number_of (answered d table s k c places) ≡ n) ↔ Given (all_cases d table s k c places) n
-  call_exactly_when = rw by_cases (given_exactly_when Refused number_of (λ r. refl) grants (accepts c).0 0 (all_cases d table s k c places)
+  call_exactly_when = rw by_cases (given_exactly_when Err number_of (λ r. refl) grants refl 0 (all_cases d table s k c places)
       (table_rising most_rows d table later_cases later_rising))
 
   -- with 2 'the lowest such row'
   pub call_bad_row : number_of (answered d table s k c places) ≡ 2 → LowestBad d table (row_of (answered d table s k c places))
   call_bad_row e =
-      let given = lowest_bad_row Refused number_of (λ r. refl) grants most_rows d table later_cases later_rising (accepts c).0 (rw by_cases at e) in
+      let given = lowest_bad_row Err number_of (λ r. refl) grants most_rows d table later_cases later_rising refl (rw by_cases at e) in
       rw (ap row_of (by_cases ∙ given.1)) given.2
 
   -- and 0 with any other number
@@ -123,5 +118,5 @@ module _ (d : ℕ) (table : List ℕ) (s : Sheet) (k : ℕ) (c : Call) (places :
   all_never_26 = call_never_26 c
 
   pub call_no_row : number_of (answered d table s k c places) ≢ 2 → row_of (answered d table s k c places) ≡ 0
-  call_no_row not-2 = rw by_cases (no_row Refused number_of (λ r. refl) grants row_of (λ r. refl) (accepts c).1 (all_cases d table s k c places)
+  call_no_row not-2 = rw by_cases (no_row Err number_of (λ r. refl) grants row_of (λ r. refl) refl (all_cases d table s k c places)
       (rw by_cases at not-2) (λ e. not_both ((call_exactly_when 26 (omega arith)).0 (rw by_cases e)).0 all_never_26))

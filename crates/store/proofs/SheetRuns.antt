@@ -8,6 +8,7 @@ use native.Mathlib.Omega.{arith}
 use lib.Dec.{leb}
 use lib.ListN.{length}
 use borrow.Author.Tests.{leb-false, eq-eqb}
+use Rattle.std.specs.Prelude.{Err}
 use Rattle.sets.specs.Rows.{bits}
 use Rattle.sets.specs.Limits.{most_places, most_rows}
 use Rattle.sheet.specs.declared.Sheet.{Sheet}
@@ -22,7 +23,6 @@ use Rattle.store.specs.declared.Call.{Call}
 use Rattle.store.specs.declared.Call.TheVariants.{Do, Ask}
 use Rattle.store.specs.declared.Change.TheVariants.{Delete, Insert, Reset}
 use Rattle.refusals.specs.declared.Refusal.TheVariants.{NoDesk}
-use Rattle.store.specs.declared.Answer.TheVariants.{Refused}
 use Rattle.refusals.specs.Cases.{◌gives◌, decided}
 use Rattle.store.specs.Answers.{accepted}
 use Rattle.store.specs.Desks.{serve}
@@ -67,10 +67,10 @@ module _ {d : ℕ} {table : List ℕ} {desks : ℕ} (good : Good d table desks) 
 
   -- of refusals 1 to 5, 5 alone is left
   pub answered_here : {s : Sheet} → Reached d table desks s → (k : ℕ) (c : Call) (places : ℕ) → answered d table s k c places
-      ≡ decided Refused ((leb desks k gives NoDesk) ∷ []) (serve d table (crowded s) places (hides s.marks k) (own s k) c)
+      ≡ decided Err ((leb desks k gives NoDesk) ∷ []) (serve d table (crowded s) places (hides s.marks k) (own s k) c)
   unfolding answered sheet_cases decided
   answered_here {s} r k c places =
-      stands_first Refused (table_cases most_rows d table) (sheet_cases d table s k) (parts_right most_rows d table good.right) _
+      stands_first Err (table_cases most_rows d table) (sheet_cases d table s k) (parts_right most_rows d table good.right) _
       ∙ rw (r.stays-sound, eq-eqb s.d d r.same_d, eq-eqb s.rows (length table) r.same_rows, r.same_desks) refl
 
   -- what an accepted call has

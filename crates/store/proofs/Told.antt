@@ -8,6 +8,7 @@ use native.Mathlib.Omega.{arith}
 use lib.Dec.{leb, ltb}
 use lib.ListN.{length}
 use borrow.Author.Tests.{leb-true, leb-false, le-leb, lt-leb, not-false}
+use Rattle.std.specs.Prelude.{Result, Ok, Err}
 use Rattle.sets.specs.Rows.{bits, as_row}
 use Rattle.sets.specs.Limits.{most_held, most_in_view, promised}
 use Rattle.sets.specs.Sets.{within}
@@ -24,9 +25,10 @@ use Rattle.refusals.specs.declared.Refusal.{Refusal}
 use Rattle.refusals.specs.declared.Refusal.TheVariants.{NoRow, HiddenAlready, BadSet, Full, NoRoom, ShortList, LongView}
 use Rattle.refusals.proofs.NumberTable.{ten_no_room}
 use Rattle.store.specs.declared.Answer.{Answer}
-use Rattle.store.specs.declared.Answer.TheVariants.{Done, Seen, Counted, Listed, Refused}
+use Rattle.store.specs.declared.Answer.TheVariants.{Done, Seen, Counted, Listed}
 use Rattle.refusals.specs.Cases.{Case, ◌gives◌, decided}
-use Rattle.store.specs.Answers.{accepted, number_of}
+use Rattle.refusals.specs.Refusals.{number_of}
+use Rattle.store.specs.Answers.{accepted}
 use Rattle.store.specs.Desks.{view, serve, written, list_after, telling}
 use Rattle.store.specs.Promise.{proper_call}
 use Rattle.store.proofs.Judging.{skipped, applied}
@@ -45,7 +47,7 @@ module _ (table : List ℕ) (hid hid' : ℕ → Bool) (own : List ℕ) (same : (
   serve_same d full places (Do (Delete (Table n))) = go (leb (length table) n) refl
     where
       go : (b : Bool) → leb (length table) n ≡ b
-          → cond b (Refused NoRow) (cond (hid n) (Refused HiddenAlready) Done) ≡ cond b (Refused NoRow) (cond (hid' n) (Refused HiddenAlready) Done)
+          → cond b (Err NoRow) (cond (hid n) (Err HiddenAlready) (Ok Done)) ≡ cond b (Err NoRow) (cond (hid' n) (Err HiddenAlready) (Ok Done))
       go true e = refl
       go false e = rw (same n (leb-false (length table) n e))
   serve_same d full places (Do (Delete (Own n))) = refl
@@ -53,13 +55,13 @@ module _ (table : List ℕ) (hid hid' : ℕ → Bool) (own : List ℕ) (same : (
   serve_same d full places (Do Reset) = refl
   serve_same d full places (Ask q) = rw view_same
 
-  pub telling_same : (d : ℕ) (c : Call) (list : List ℕ) (a : Answer) → telling d table hid own c list a ≡ telling d table hid' own c list a
+  pub telling_same : (d : ℕ) (c : Call) (list : List ℕ) (a : Result Answer Refusal) → telling d table hid own c list a ≡ telling d table hid' own c list a
   unfolding written
   telling_same d (Do c) list a = refl
   telling_same d (Ask q) list a = rw view_same
 
 -- a refusal writes nothing
-pub refused_list : (front : List ℕ) (r : Refusal) (list : List ℕ) → list_after front (Refused r) list ≡ list
+pub refused_list : (front : List ℕ) (r : Refusal) (list : List ℕ) → list_after front (Err r) list ≡ list
 unfolding list_after accepted
 refused_list front r list = refl
 
@@ -69,12 +71,12 @@ and_false : (b : Bool) → (b && false) ≡ false
 and_false true = refl
 and_false false = refl
 
-pub ten_is : (a : Answer) → number_of a ≡ 10 → a ≡ Refused NoRoom
-ten_is Done e = absurd (omega arith)
-ten_is (Seen row) e = absurd (omega arith)
-ten_is (Counted rows held) e = absurd (omega arith)
-ten_is (Listed n) e = absurd (omega arith)
-ten_is (Refused r) e = ap Refused (ten_no_room r e)
+pub ten_is : (a : Result Answer Refusal) → number_of a ≡ 10 → a ≡ Err NoRoom
+ten_is (Ok Done) e = absurd (omega arith)
+ten_is (Ok (Seen row)) e = absurd (omega arith)
+ten_is (Ok (Counted rows held)) e = absurd (omega arith)
+ten_is (Ok (Listed n)) e = absurd (omega arith)
+ten_is (Err r) e = ap Err (ten_no_room r e)
 
 module _ (d : ℕ) (table : List ℕ) (full : Bool) (places : ℕ) (hid : ℕ → Bool) (own : List ℕ) where
   pub serve_ten : (c : Call) → number_of (serve d table full places hid own c) ≡ 10
@@ -83,15 +85,15 @@ module _ (d : ℕ) (table : List ℕ) (full : Bool) (places : ℕ) (hid : ℕ �
   serve_ten (Do (Delete (Table n))) e =
       absurd (omega (
         arith,
-        (skipped 10 (hid n) HiddenAlready [] Done (omega arith)
-            (skipped 10 (leb (length table) n) NoRow ((hid n gives HiddenAlready) ∷ []) Done (omega arith) e).1).1,
+        (skipped 10 (hid n) HiddenAlready [] (Ok Done) (omega arith)
+            (skipped 10 (leb (length table) n) NoRow ((hid n gives HiddenAlready) ∷ []) (Ok Done) (omega arith) e).1).1,
       ))
-  serve_ten (Do (Delete (Own n))) e = absurd (omega (arith, (skipped 10 (leb (length own) n) NoRow [] Done (omega arith) e).1))
+  serve_ten (Do (Delete (Own n))) e = absurd (omega (arith, (skipped 10 (leb (length own) n) NoRow [] (Ok Done) (omega arith) e).1))
   serve_ten (Do (Insert row)) e =
       let room : List Case = ((leb promised (length own) && full) gives NoRoom) ∷ [] in
-      let one = skipped 10 (not (within d (bits row))) BadSet ((leb most_held (length own) gives Full) ∷ room) Done (omega arith) e in
-      let two = skipped 10 (leb most_held (length own)) Full room Done (omega arith) one.1 in
-      let three = applied 10 (leb promised (length own) && full) NoRoom Done (omega arith) two.1 in (
+      let one = skipped 10 (not (within d (bits row))) BadSet ((leb most_held (length own) gives Full) ∷ room) (Ok Done) (omega arith) e in
+      let two = skipped 10 (leb most_held (length own)) Full room (Ok Done) (omega arith) one.1 in
+      let three = applied 10 (leb promised (length own) && full) NoRoom (Ok Done) (omega arith) two.1 in (
         not-false (within d (bits row)) one.0,
         leb-true promised (length own) (and_left (leb promised (length own)) full three),
         leb-false most_held (length own) two.0,
@@ -99,10 +101,10 @@ module _ (d : ℕ) (table : List ℕ) (full : Bool) (places : ℕ) (hid : ℕ �
       )
   serve_ten (Do Reset) e = absurd (omega arith)
   serve_ten (Ask (Look n)) e =
-      absurd (omega (arith, (skipped 10 (leb (length (view table hid own)) n) NoRow [] (Seen (as_row (at (view table hid own) n))) (omega arith) e).1))
+      absurd (omega (arith, (skipped 10 (leb (length (view table hid own)) n) NoRow [] (Ok (Seen (as_row (at (view table hid own) n)))) (omega arith) e).1))
   serve_ten (Ask Count) e = absurd (omega arith)
   serve_ten (Ask Distinct) e =
-      let a : Answer = Listed (length (kept d (view table hid own))) in
+      let a : Result Answer Refusal = Ok (Listed (length (kept d (view table hid own)))) in
       let long : Bool = ltb most_in_view (length (view table hid own)) in
       absurd (omega (
         arith,
@@ -143,7 +145,7 @@ module _ (d : ℕ) (table : List ℕ) (full : Bool) (places : ℕ) (hid : ℕ �
   serve_but_ten (Do (Insert row)) ne = go (not (within d (bits row))) (leb most_held (length own)) (leb promised (length own)) full ne
     where
       go : (a b c f : Bool) → let tests : Bool
-          → Answer = λ x. decided Refused ((a gives BadSet) ∷ (b gives Full) ∷ ((c && x) gives NoRoom) ∷ []) Done in
+          → Result Answer Refusal = λ x. decided Err ((a gives BadSet) ∷ (b gives Full) ∷ ((c && x) gives NoRoom) ∷ []) (Ok Done) in
           number_of (tests f) ≢ 10 → tests f ≡ tests false
       go true b c f ne = refl
       go false true c f ne = refl

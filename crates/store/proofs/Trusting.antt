@@ -4,6 +4,7 @@ use mathlib.Core.Path.{◌≡◌, sym, ap, ◌∙◌}
 use mathlib.Core.List.{List}
 use native.Mathlib.Omega.{arith}
 use lib.ListN.{length}
+use Rattle.std.specs.Prelude.{Ok}
 use Rattle.sets.specs.Rows.{rows_of}
 use Rattle.sets.specs.Limits.{most_desks, most_held, most_places, most_rows, most_values, promised}
 use Rattle.theory.specs.Pairings.{at}
@@ -18,9 +19,8 @@ use Rattle.sheet.proofs.SoundParts.{sound_parts}
 use Rattle.store.specs.declared.Answer.TheVariants.{Done}
 use Rattle.store.specs.Desks.{view}
 use Rattle.refusals.specs.TableCases.{table_cases}
-use Rattle.refusals.proofs.TablesJudged.{TableRight, right_parts}
+use Rattle.refusals.proofs.TablesJudged.{TableRight, right_parts, judged_right}
 use Rattle.store.specs.Code.Serving.{Trusted}
-use Rattle.store.proofs.Judging.{none_apply}
 use Rattle.store.proofs.ViewRows.{within-those, within-view}
 
 -- the limits that the code leans on
@@ -37,7 +37,7 @@ pub record Limits (d : ℕ) (table : List ℕ) (s : Sheet) (counts : List ℕ) (
 
 module _ (d : ℕ) (table : List ℕ) (s : Sheet) (counts : List ℕ) (k : ℕ) (T : Trusted d table s counts k) where
   right : TableRight most_rows d table
-  right = right_parts most_rows d table (none_apply (table_cases most_rows d table) Done T.table_right)
+  right = right_parts most_rows d table (judged_right (table_cases most_rows d table) T.table_right)
 
   pub limits : Limits d table s counts k
   limits =
@@ -59,12 +59,12 @@ module _ (d : ℕ) (table : List ℕ) (s : Sheet) (counts : List ℕ) (k : ℕ) 
       }
 
   -- every row of the desk's view is one of the column
-  pub in_column : s.d ≡ d → InColumn d (view table (hides s.marks k) (own s k))
-  in_column same =
+  pub in_column : InColumn d (view table (hides s.marks k) (own s k))
+  in_column =
       let S = sound_parts s T.sheet_right in
       record {
         column = right.values;
         rows_within =
             within-view d table (hides s.marks k) (own s k) (bad_row-none d table right.none_bad)
-            (rw (sym same) (within-those s.d (owns s.owners k) (rows_of s.sets) s.used S.row));
+            (rw (sym T.same_d) (within-those s.d (owns s.owners k) (rows_of s.sets) s.used S.row));
       }

@@ -11,7 +11,7 @@ use Rattle.sets.specs.Rows.{bits, as_row}
 use Rattle.sets.specs.Limits.{most_held, most_in_view, most_rows, most_values, promised}
 use Rattle.theory.specs.Pairings.{at}
 use Rattle.theory.specs.Kept.{kept}
-use Rattle.std.specs.Prelude.{Option, Some, None}
+use Rattle.std.specs.Prelude.{Option, Some, None, Result, Ok}
 use Rattle.sets.specs.Sets.{within}
 use Rattle.sets.specs.Tables.{bad_row}
 use Rattle.sheet.specs.declared.Sheet.{Sheet}
@@ -20,6 +20,7 @@ use Rattle.sheet.specs.Sheets.{own, hides, sound}
 use Rattle.sheet.proofs.UptoLaws.{count-le, length-those}
 use Rattle.sheet.proofs.OwnAfter.{length-own}
 use Rattle.sheet.proofs.SoundParts.{sound_parts}
+use Rattle.refusals.specs.declared.Refusal.{Refusal}
 use Rattle.store.specs.declared.Target.TheVariants.{Table, Own}
 use Rattle.store.specs.declared.Call.{Call}
 use Rattle.store.specs.declared.Call.TheVariants.{Do, Ask}
@@ -31,7 +32,7 @@ use Rattle.store.specs.declared.Answer.{Answer}
 use Rattle.store.specs.declared.Answer.TheVariants.{Done, Seen, Listed}
 use Rattle.refusals.specs.Refusals.{number}
 use Rattle.refusals.specs.Cases.{Case, ◌gives◌, decided}
-use Rattle.store.specs.Answers.{number_of}
+use Rattle.refusals.specs.Refusals.{number_of}
 use Rattle.store.specs.Desks.{view, serve}
 use Rattle.refusals.specs.TableCases.{bad_case, table_cases}
 use Rattle.refusals.proofs.TablesJudged.{or_no}
@@ -50,21 +51,21 @@ module _ (d : ℕ) (table : List ℕ) (full : Bool) (places : ℕ) (hid : ℕ �
   not_served : (c : Call) → number_of (serve d table full places hid own c) ≢ 12
   unfolding serve decided
   not_served (Do (Delete (Table n))) e =
-      let one = skipped 12 (leb (length table) n) NoRow ((hid n gives HiddenAlready) ∷ []) Done (omega arith) e in
-      omega (arith, (skipped 12 (hid n) HiddenAlready [] Done (omega arith) one.1).1)
-  not_served (Do (Delete (Own n))) e = omega (arith, (skipped 12 (leb (length own) n) NoRow [] Done (omega arith) e).1)
+      let one = skipped 12 (leb (length table) n) NoRow ((hid n gives HiddenAlready) ∷ []) (Ok Done) (omega arith) e in
+      omega (arith, (skipped 12 (hid n) HiddenAlready [] (Ok Done) (omega arith) one.1).1)
+  not_served (Do (Delete (Own n))) e = omega (arith, (skipped 12 (leb (length own) n) NoRow [] (Ok Done) (omega arith) e).1)
   not_served (Do (Insert row)) e =
       let room : List Case = ((leb promised (length own) && full) gives NoRoom) ∷ [] in
-      let one = skipped 12 (not (within d (bits row))) BadSet ((leb most_held (length own) gives Full) ∷ room) Done (omega arith) e in
-      let two = skipped 12 (leb most_held (length own)) Full room Done (omega arith) one.1 in
-      omega (arith, (skipped 12 (leb promised (length own) && full) NoRoom [] Done (omega arith) two.1).1)
+      let one = skipped 12 (not (within d (bits row))) BadSet ((leb most_held (length own) gives Full) ∷ room) (Ok Done) (omega arith) e in
+      let two = skipped 12 (leb most_held (length own)) Full room (Ok Done) (omega arith) one.1 in
+      omega (arith, (skipped 12 (leb promised (length own) && full) NoRoom [] (Ok Done) (omega arith) two.1).1)
   not_served (Do Reset) e = omega arith
   not_served (Ask (Look n)) e =
-      omega (arith, (skipped 12 (leb (length (view table hid own)) n) NoRow [] (Seen (as_row (at (view table hid own) n))) (omega arith) e).1)
+      omega (arith, (skipped 12 (leb (length (view table hid own)) n) NoRow [] (Ok (Seen (as_row (at (view table hid own) n)))) (omega arith) e).1)
   not_served (Ask Count) e = omega arith
   not_served (Ask Distinct) e =
       let rows = length (view table hid own) in
-      let a : Answer = Listed (length (kept d (view table hid own))) in
+      let a : Result Answer Refusal = Ok (Listed (length (kept d (view table hid own)))) in
       let short = skipped 12 (ltb places rows) ShortList ((ltb most_in_view rows gives LongView) ∷ []) a (omega arith) e in
       omega (arith, ltb-true most_in_view rows (applied 12 (ltb most_in_view rows) LongView a (omega arith) short.1), view-most table hid own)
 

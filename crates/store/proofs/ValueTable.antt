@@ -3,17 +3,20 @@
 use Prim.Native.Nat.{ℕ, ◌^◌, ◌<◌}
 use mathlib.Core.Path.{◌≡◌, refl, ap}
 use mathlib.Core.List.{List, [], ◌∷◌, map}
+use Rattle.std.specs.Prelude.{Result, Ok, Err}
 use Rattle.sets.specs.declared.Row.{Row}
 use Rattle.sets.specs.Rows.{width, bits, as_row}
 use Rattle.sets.proofs.RowValues.{row-bits}
 use Rattle.refusals.specs.declared.Refusal.TheVariants.{BadRow, NoRoom}
+use Rattle.refusals.specs.declared.Refusal.{Refusal}
 use Rattle.store.specs.declared.Answer.{Answer}
-use Rattle.store.specs.declared.Answer.TheVariants.{Done, Seen, Counted, Listed, Refused}
-use Rattle.store.specs.Answers.{number_of, values_of}
+use Rattle.store.specs.declared.Answer.TheVariants.{Done, Seen, Counted, Listed}
+use Rattle.refusals.specs.Refusals.{number_of}
+use Rattle.store.specs.Answers.{values_of}
 
 -- every kind of answer, with these values
-pub every : Row → ℕ → ℕ → ℕ → ℕ → List Answer
-every row rows own n i = Done ∷ Seen row ∷ Counted rows own ∷ Listed n ∷ Refused (BadRow i) ∷ Refused NoRoom ∷ []
+pub every : Row → ℕ → ℕ → ℕ → ℕ → List (Result Answer Refusal)
+every row rows own n i = Ok Done ∷ Ok (Seen row) ∷ Ok (Counted rows own) ∷ Ok (Listed n) ∷ Err (BadRow i) ∷ Err NoRoom ∷ []
 
 pub values_printed : (row : Row) (rows own n i : ℕ)
     → map values_of (every row rows own n i) ≡ [] ∷ (bits row ∷ []) ∷ (rows ∷ own ∷ []) ∷ (n ∷ []) ∷ (i ∷ []) ∷ (0 ∷ []) ∷ []
@@ -25,5 +28,5 @@ unfolding every
 numbers_printed row rows own n i = refl
 
 -- the row that is shown is the set there
-pub shown_set : (set : ℕ) → set < 2 ^ width → values_of (Seen (as_row set)) ≡ set ∷ []
+pub shown_set : (set : ℕ) → set < 2 ^ width → values_of (Ok (Seen (as_row set))) ≡ set ∷ []
 shown_set set h = ap (λ (n : ℕ). n ∷ []) (row-bits set h)

@@ -10,6 +10,7 @@ use lib.Dec.{eqb, leb, ltb}
 use lib.Pow.{pow-lt}
 use lib.ListN.{length, take, drop, length-append, length-take, length-drop}
 use borrow.Author.Tests.{lt-ltb, lt-leb, leb-false, eq-eqb, ne_eqb}
+use Rattle.std.specs.Prelude.{Result, Ok, Err}
 use Rattle.sets.specs.Rows.{width, bits, as_row}
 use Rattle.sets.proofs.RowValues.{row-bits}
 use Rattle.sets.specs.Limits.{most_held, most_places, promised}
@@ -19,6 +20,7 @@ use Rattle.sets.proofs.Bools.{and_both, not_both}
 use Rattle.sheet.specs.Upto.{count_to, those}
 use Rattle.sheet.proofs.UptoLaws.{count_yes, count_no, count_ext, length-those, top_or-below}
 use Rattle.sheet.proofs.SoundParts.{sound_parts}
+use Rattle.refusals.specs.declared.Refusal.{Refusal}
 use Rattle.store.specs.declared.Target.TheVariants.{Table, Own}
 use Rattle.store.specs.declared.Call.{Call}
 use Rattle.store.specs.declared.Call.TheVariants.{Do, Ask}
@@ -26,9 +28,10 @@ use Rattle.store.specs.declared.Change.TheVariants.{Delete, Insert}
 use Rattle.store.specs.declared.Question.TheVariants.{Look, Count}
 use Rattle.refusals.specs.declared.Refusal.TheVariants.{NoDesk, NoRow, HiddenAlready, NoRoom}
 use Rattle.store.specs.declared.Answer.{Answer}
-use Rattle.store.specs.declared.Answer.TheVariants.{Done, Seen, Counted, Refused}
+use Rattle.store.specs.declared.Answer.TheVariants.{Done, Seen, Counted}
 use Rattle.refusals.specs.Cases.{◌gives◌, decided}
-use Rattle.store.specs.Answers.{accepted, number_of}
+use Rattle.refusals.specs.Refusals.{number_of}
+use Rattle.store.specs.Answers.{accepted}
 use Rattle.store.specs.Desks.{view, serve, Told}
 use Rattle.store.specs.Calls.{begun_answer}
 use Rattle.store.specs.Promise.{Turn, Store, hidden_in, own_in, member, alone, history, held_by, used_by, owed_by}
@@ -81,7 +84,7 @@ module _ {d : ℕ} {table : List ℕ} {desks : ℕ} {tell : Store} (begun : acce
   told-alone : (past : List Turn) (t : Turn) → proper_call d t.call ≡ false → tell past t ≡ alone d table desks (history tell t.desk past) t
   told-alone past t off = keeps.as_alone past t (λ e. not_both (proper_parts d desks t ((keeps.no_room past t).0 e).0).1 off)
 
-  abbrev served : ℕ → Call → List ℕ → List Turn → Answer
+  abbrev served : ℕ → Call → List ℕ → List Turn → Result Answer Refusal
   served k c list past = serve d table false (length list) (member (hidden_in (history tell k past))) (own_in (history tell k past)) c
 
   answered-alone : (past : List Turn) (k : ℕ) (c : Call) (list : List ℕ) → k < desks → proper_call d c ≡ false
@@ -120,7 +123,7 @@ module _ {d : ℕ} {table : List ℕ} {desks : ℕ} {tell : Store} (begun : acce
   -- ---- a made-up count: the rows in the view, and its inserts less its removals since the last reset
 
   pub no_made_up_count : (past : List Turn) (k : ℕ) (list : List ℕ) → k < desks
-      → (tell past (turn k (Ask Count) list)).answer ≡ Counted (length (seen k past)) (held_by tell k past)
+      → (tell past (turn k (Ask Count) list)).answer ≡ Ok (Counted (length (seen k past)) (held_by tell k past))
   unfolding proper_call serve decided
   no_made_up_count past k list h = answered-alone past k (Ask Count) list h refl
 
@@ -132,8 +135,8 @@ module _ {d : ℕ} {table : List ℕ} {desks : ℕ} {tell : Store} (begun : acce
   delete_has past k n list t =
       let p = accepted-alone past k (Do (Delete (Table n))) list refl t in
       let hid = member (hidden_in (history tell k past)) n in
-      let q = passed (leb (length table) n) NoRow ((hid gives HiddenAlready) ∷ []) Done p.1 in
-      (p.0, leb-false (length table) n q.0, (passed hid HiddenAlready [] Done q.1).0)
+      let q = passed (leb (length table) n) NoRow ((hid gives HiddenAlready) ∷ []) (Ok Done) p.1 in
+      (p.0, leb-false (length table) n q.0, (passed hid HiddenAlready [] (Ok Done) q.1).0)
 
   one_row_less : (past : List Turn) (k n : ℕ) (list : List ℕ) → accepted (tell past (turn k (Do (Delete (Table n))) list)).answer ≡ true
       → length (seen k past) ≡ suc (length (seen k (turn k (Do (Delete (Table n))) list ∷ past)))
@@ -150,17 +153,17 @@ module _ {d : ℕ} {table : List ℕ} {desks : ℕ} {tell : Store} (begun : acce
   -- after an accepted table delete, whatever came before, the desk counts one row less, and the row can't be deleted again
   pub no_delete_hides_nothing : (past : List Turn) (k n : ℕ) (list : List ℕ)
       → let t = turn k (Do (Delete (Table n))) list in accepted (tell past t).answer ≡ true
-      → (list' : List ℕ) → (r : ℕ) × ((tell past (turn k (Ask Count) list')).answer ≡ Counted (suc r) (held_by tell k past))
-      × ((tell (t ∷ past) (turn k (Ask Count) list')).answer ≡ Counted r (held_by tell k past))
-      × ((tell (t ∷ past) (turn k (Do (Delete (Table n))) list')).answer ≡ Refused HiddenAlready)
+      → (list' : List ℕ) → (r : ℕ) × ((tell past (turn k (Ask Count) list')).answer ≡ Ok (Counted (suc r) (held_by tell k past)))
+      × ((tell (t ∷ past) (turn k (Ask Count) list')).answer ≡ Ok (Counted r (held_by tell k past)))
+      × ((tell (t ∷ past) (turn k (Do (Delete (Table n))) list')).answer ≡ Err HiddenAlready)
   unfolding serve decided proper_call hidden_in own_in member
   no_delete_hides_nothing past k n list t list' =
       let after = turn k (Do (Delete (Table n))) list ∷ past in
       let q = delete_has past k n list t in
       let next = history_next past k (Do (Delete (Table n))) list t in (
         length (seen k after),
-        no_made_up_count past k list' q.0 ∙ ap (λ (r : ℕ). Counted r (held_by tell k past)) (one_row_less past k n list t),
-        no_made_up_count after k list' q.0 ∙ ap (λ (h : List Call). Counted (length (seen k after)) (length (own_in h))) next,
+        no_made_up_count past k list' q.0 ∙ ap (λ (r : ℕ). Ok (Counted r (held_by tell k past))) (one_row_less past k n list t),
+        no_made_up_count after k list' q.0 ∙ ap (λ (h : List Call). Ok (Counted (length (seen k after)) (length (own_in h)))) next,
         answered-alone after k (Do (Delete (Table n))) list' q.0 refl ∙ rw (next, lt-leb (length table) n q.1, eq-eqb n n refl),
       )
 
@@ -168,14 +171,14 @@ module _ {d : ℕ} {table : List ℕ} {desks : ℕ} {tell : Store} (begun : acce
   pub no_own_delete_takes_nothing : (past : List Turn) (k n : ℕ) (list : List ℕ)
       → let t = turn k (Do (Delete (Own n))) list in accepted (tell past t).answer ≡ true
       → (list' : List ℕ)
-      → (r m : ℕ) × ((tell past (turn k (Ask Count) list')).answer ≡ Counted (suc r) (suc m))
-      × ((tell (t ∷ past) (turn k (Ask Count) list')).answer ≡ Counted r m)
+      → (r m : ℕ) × ((tell past (turn k (Ask Count) list')).answer ≡ Ok (Counted (suc r) (suc m)))
+      × ((tell (t ∷ past) (turn k (Ask Count) list')).answer ≡ Ok (Counted r m))
   unfolding serve proper_call hidden_in own_in
   no_own_delete_takes_nothing past k n list t list' =
       let after = turn k (Do (Delete (Own n))) list ∷ past in
       let h = history tell k past in
       let p = accepted-alone past k (Do (Delete (Own n))) list refl t in
-      let there = leb-false (length (own_in h)) n (passed (leb (length (own_in h)) n) NoRow [] Done p.1).0 in
+      let there = leb-false (length (own_in h)) n (passed (leb (length (own_in h)) n) NoRow [] (Ok Done) p.1).0 in
       let next = history_next past k (Do (Delete (Own n))) list t in
       let rest = take n (own_in h) ++ drop (suc n) (own_in h) in
       let held : length (own_in h) ≡ suc (length rest) =
@@ -185,22 +188,22 @@ module _ {d : ℕ} {table : List ℕ} {desks : ℕ} {tell : Store} (begun : acce
       omega (arith, length-view table hid (own_in h), length-view table hid rest) in (
         length (view table hid rest),
         length rest,
-        no_made_up_count past k list' p.0 ∙ ap₂ Counted rows held,
+        no_made_up_count past k list' p.0 ∙ (λ i. Ok (Counted (rows i) (held i))),
         no_made_up_count after k list' p.0
-            ∙ ap (λ (l : List Call). Counted (length (view table (member (hidden_in l)) (own_in l))) (length (own_in l))) next,
+            ∙ ap (λ (l : List Call). Ok (Counted (length (view table (member (hidden_in l)) (own_in l))) (length (own_in l)))) next,
       )
 
   -- ---- a delete that only honours its first call: whatever the desk deleted before, a row that it has not hidden is hidden
 
   delete_done : (past : List Turn) (k n : ℕ) (list : List ℕ) → k < desks → n < length table → member (hidden_in (history tell k past)) n ≡ false
-      → (tell past (turn k (Do (Delete (Table n))) list)).answer ≡ Done
+      → (tell past (turn k (Do (Delete (Table n))) list)).answer ≡ Ok Done
   unfolding serve decided proper_call
   delete_done past k n list h l e = answered-alone past k (Do (Delete (Table n))) list h refl ∙ rw (lt-leb (length table) n l, e)
 
   pub no_delete_honours_its_first_call_only : (past : List Turn) (k n m : ℕ) (list list' : List ℕ) → let t = turn k (Do (Delete (Table n))) list in
       accepted (tell past t).answer ≡ true → m < length table → m ≢ n → member (hidden_in (history tell k past)) m ≡ false
       → let t' = turn k (Do (Delete (Table m))) list' in
-      ((tell (t ∷ past) t').answer ≡ Done) × (length (seen k past) ≡ suc (suc (length (seen k (t' ∷ t ∷ past)))))
+      ((tell (t ∷ past) t').answer ≡ Ok Done) × (length (seen k past) ≡ suc (suc (length (seen k (t' ∷ t ∷ past)))))
   unfolding hidden_in member accepted
   no_delete_honours_its_first_call_only past k n m list list' t l ne e =
       let after = turn k (Do (Delete (Table n))) list ∷ past in
@@ -213,7 +216,7 @@ module _ {d : ℕ} {table : List ℕ} {desks : ℕ} {tell : Store} (begun : acce
 
   pub no_insert_takes_what_is_owed : (past : List Turn) (t : Turn) → proper_insert d desks t ≡ true → promised ≤ held_by tell t.desk past
       → held_by tell t.desk past < most_held
-      → used_by tell desks past + owed_by tell desks past ≡ most_places → tell past t ≡ record { answer = Refused NoRoom; list = t.list }
+      → used_by tell desks past + owed_by tell desks past ≡ most_places → tell past t ≡ record { answer = Err NoRoom; list = t.list }
   no_insert_takes_what_is_owed past t p lo hi full =
       let ten = (keeps.no_room past t).1 (p, lo, hi, full) in
       λ i. record { answer = ten_is (tell past t).answer ten i; list = keeps.no_room_list past t ten i }
@@ -248,7 +251,7 @@ module _ {d : ℕ} {table : List ℕ} {desks : ℕ} {tell : Store} (begun : acce
   -- ---- a look that shows where rows sit in the class list: it shows the desk's view, and what the others did doesn't tell on it
 
   pub no_look_shows_the_class_list : (past : List Turn) (k n : ℕ) (list : List ℕ) → k < desks → n < length (seen k past)
-      → (tell past (turn k (Ask (Look n)) list)).answer ≡ Seen (as_row (at (seen k past) n))
+      → (tell past (turn k (Ask (Look n)) list)).answer ≡ Ok (Seen (as_row (at (seen k past) n)))
   unfolding serve decided proper_call
   no_look_shows_the_class_list past k n list h l = answered-alone past k (Ask (Look n)) list h refl ∙ rw (lt-leb (length (seen k past)) n l)
 

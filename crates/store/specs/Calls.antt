@@ -1,11 +1,12 @@
 -- A call on the class sheet: what is answered, the sheet that is handed back, and the lent list (the request, the table of calls).
-use Rattle.std.specs.Prelude.{ℕ, zero, suc, ◌+◌, Bool, cond, not, ◌&&◌, ◌||◌, List, [], ◌∷◌, ◌++◌, eqb, leb, ltb, length}
+use Rattle.std.specs.Prelude.{ℕ, zero, suc, ◌+◌, Bool, cond, not, ◌&&◌, ◌||◌, List, [], ◌∷◌, ◌++◌, eqb, leb, ltb, length, Result, Ok, Err}
 use Rattle.sets.specs.Limits.{most_rows, most_desks, most_places}
 use Rattle.sets.specs.Rows.{bits}
 use Rattle.refusals.specs.TableCases.{table_cases}
 use Rattle.sheet.specs.declared.Sheet.{Sheet}
 use Rattle.sheet.specs.Sheets.{own, hides, owed, sound}
 use Rattle.sheet.specs.Changes.{fresh_sheet, hiding, adding, without, resetting}
+use Rattle.refusals.specs.declared.Refusal.{Refusal}
 use Rattle.store.specs.declared.Target.TheVariants.{Table, Own}
 use Rattle.store.specs.declared.Call.{Call}
 use Rattle.store.specs.declared.Call.TheVariants.{Do, Ask}
@@ -13,7 +14,7 @@ use Rattle.store.specs.declared.Change.{Change}
 use Rattle.store.specs.declared.Change.TheVariants.{Delete, Insert, Reset}
 use Rattle.refusals.specs.declared.Refusal.TheVariants.{Unsound, OtherTable, NoDesk, BadDesks}
 use Rattle.store.specs.declared.Answer.{Answer}
-use Rattle.store.specs.declared.Answer.TheVariants.{Done, Refused}
+use Rattle.store.specs.declared.Answer.TheVariants.{Done}
 use Rattle.store.specs.declared.Reply.{Reply}
 use Rattle.refusals.specs.Cases.{Case, ◌gives◌, decided}
 use Rattle.store.specs.Answers.{accepted}
@@ -25,8 +26,8 @@ use Rattle.store.specs.Desks.{call_cases, serve, Told, telling}
 abbrev pub begin_cases : ℕ → List ℕ → ℕ → List Case
 begin_cases d table desks = table_cases most_rows d table ++ (((eqb desks zero || ltb most_desks desks) gives BadDesks) ∷ [])
 
-unfoldable pub begun_answer : ℕ → List ℕ → ℕ → Answer
-begun_answer d table desks = decided Refused (begin_cases d table desks) Done
+unfoldable pub begun_answer : ℕ → List ℕ → ℕ → Result Answer Refusal
+begun_answer d table desks = decided Err (begin_cases d table desks) (Ok Done)
 
 -- 'a fresh sheet for this d and T'; refused, 'it then returns a sheet of zeros, which isn't sound'
 unfoldable pub begun_sheet : ℕ → List ℕ → ℕ → Sheet
@@ -50,9 +51,9 @@ unfoldable pub sheet_cases : ℕ → List ℕ → Sheet → ℕ → List Case
 sheet_cases d table s k = (not (sound s) gives Unsound) ∷ desk_cases d (length table) s.d s.rows s.desks k
 
 -- what desk k is answered
-unfoldable pub answered : ℕ → List ℕ → Sheet → ℕ → Call → ℕ → Answer
+unfoldable pub answered : ℕ → List ℕ → Sheet → ℕ → Call → ℕ → Result Answer Refusal
 answered d table s k c places =
-    decided Refused (table_cases most_rows d table ++ sheet_cases d table s k) (serve d table (crowded s) places (hides s.marks k) (own s k) c)
+    decided Err (table_cases most_rows d table ++ sheet_cases d table s k) (serve d table (crowded s) places (hides s.marks k) (own s k) c)
 
 -- all cases of a desk's call, in the order of their numbers
 abbrev pub all_cases : ℕ → List ℕ → Sheet → ℕ → Call → ℕ → List Case

@@ -1,11 +1,12 @@
 -- One desk: what it sees, and what it is told, from the table rows that it hides and the rows that it owns (the request, 'The class sheet').
-use Rattle.std.specs.Prelude.{ℕ, Bool, not, cond, ◌&&◌, List, [], ◌∷◌, ◌++◌, leb, ltb, length, drop}
+use Rattle.std.specs.Prelude.{ℕ, Bool, not, cond, ◌&&◌, List, [], ◌∷◌, ◌++◌, leb, ltb, length, drop, Result, Ok, Err}
 use Rattle.sets.specs.Limits.{most_held, promised, most_in_view}
 use Rattle.sets.specs.Sets.{within}
 use Rattle.sets.specs.Rows.{bits, as_row}
 use Rattle.theory.specs.Pairings.{at}
 use Rattle.theory.specs.Kept.{kept}
 use Rattle.sheet.specs.Upto.{those}
+use Rattle.refusals.specs.declared.Refusal.{Refusal}
 use Rattle.store.specs.declared.Target.TheVariants.{Table, Own}
 use Rattle.store.specs.declared.Call.{Call}
 use Rattle.store.specs.declared.Call.TheVariants.{Do, Ask}
@@ -16,7 +17,7 @@ use Rattle.store.specs.declared.Question.TheVariants.{Look, Count, Distinct}
 use Rattle.store.specs.Answers.{accepted}
 use Rattle.refusals.specs.declared.Refusal.TheVariants.{NoRow, HiddenAlready, BadSet, Full, NoRoom, ShortList, LongView}
 use Rattle.store.specs.declared.Answer.{Answer}
-use Rattle.store.specs.declared.Answer.TheVariants.{Done, Seen, Counted, Listed, Refused}
+use Rattle.store.specs.declared.Answer.TheVariants.{Done, Seen, Counted, Listed}
 use Rattle.refusals.specs.Cases.{Case, ◌gives◌, decided}
 
 -- 'A desk's view is the table's rows that it hasn't hidden, in table order, then its own rows in order of insertion.'
@@ -80,8 +81,8 @@ module _ (d : ℕ) (table : List ℕ) (full : Bool) (places : ℕ) (hid : ℕ �
   granted (Do c) = Done
   granted (Ask q) = answer_to d (view table hid own) (length own) q
 
-  unfoldable pub serve : Call → Answer
-  serve c = decided Refused (call_cases c) (granted c)
+  unfoldable pub serve : Call → Result Answer Refusal
+  serve c = decided Err (call_cases c) (Ok (granted c))
 
 -- what an accepted call puts at the front of the lent list: a change nothing
 unfoldable pub written : ℕ → List ℕ → (ℕ → Bool) → List ℕ → Call → List ℕ
@@ -89,14 +90,14 @@ written d table hid own (Do c) = []
 written d table hid own (Ask q) = written_for d (view table hid own) q
 
 -- 'later places keep what they had', and a refusal 'writes to no lent memory'
-unfoldable pub list_after : List ℕ → Answer → List ℕ → List ℕ
+unfoldable pub list_after : List ℕ → Result Answer Refusal → List ℕ → List ℕ
 list_after front a list = cond (accepted a) (front ++ drop (length front) list) list
 
 -- 'What a desk is told is the answer and what is written to the lent list'
 pub record Told : Type 0 where
-  pub answer : Answer
+  pub answer : Result Answer Refusal
   pub list : List ℕ
 
 -- the call's answer a, and what becomes of its list
-abbrev pub telling : ℕ → List ℕ → (ℕ → Bool) → List ℕ → Call → List ℕ → Answer → Told
+abbrev pub telling : ℕ → List ℕ → (ℕ → Bool) → List ℕ → Call → List ℕ → Result Answer Refusal → Told
 telling d table hid own c list a = record { answer = a; list = list_after (written d table hid own c) a list }

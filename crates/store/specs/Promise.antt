@@ -1,5 +1,5 @@
 -- Demand 3, as a promise about any store: it names no sheet, only turns, what is told, and what follows from them.
-use Rattle.std.specs.Prelude.{ℕ, suc, ◌+◌, ◌-◌, ◌≤◌, ◌<◌, ◌≡◌, ◌≢◌, ◌↔◌, Bool, true, false, cond, ◌&&◌, ◌||◌, List, [], ◌∷◌, ◌++◌, eqb, leb, ltb, length, take, drop}
+use Rattle.std.specs.Prelude.{ℕ, suc, ◌+◌, ◌-◌, ◌≤◌, ◌<◌, ◌≡◌, ◌≢◌, ◌↔◌, Bool, true, false, cond, ◌&&◌, ◌||◌, List, [], ◌∷◌, ◌++◌, eqb, leb, ltb, length, take, drop, Err}
 use Rattle.sets.specs.Limits.{most_places, most_held, promised}
 use Rattle.sets.specs.Sets.{within}
 use Rattle.sets.specs.Rows.{bits}
@@ -10,9 +10,9 @@ use Rattle.store.specs.declared.Call.{Call}
 use Rattle.store.specs.declared.Call.TheVariants.{Do, Ask}
 use Rattle.store.specs.declared.Change.TheVariants.{Delete, Insert, Reset}
 use Rattle.refusals.specs.declared.Refusal.TheVariants.{NoDesk}
-use Rattle.store.specs.declared.Answer.TheVariants.{Refused}
 use Rattle.refusals.specs.Cases.{◌gives◌, decided}
-use Rattle.store.specs.Answers.{accepted, number_of}
+use Rattle.refusals.specs.Refusals.{number_of}
+use Rattle.store.specs.Answers.{accepted}
 use Rattle.store.specs.Desks.{serve, Told, telling}
 use Rattle.store.specs.Calls.{begun_sheet, sheet_after, told}
 
@@ -55,7 +55,7 @@ member (m ∷ ms) n = eqb m n || member ms n
 unfoldable pub alone : ℕ → List ℕ → ℕ → List Call → Turn → Told
 alone d table desks h t =
     telling d table (member (hidden_in h)) (own_in h) t.call t.list
-    (decided Refused ((leb desks t.desk gives NoDesk) ∷ []) (serve d table false (length t.list) (member (hidden_in h)) (own_in h) t.call))
+    (decided Err ((leb desks t.desk gives NoDesk) ∷ []) (serve d table false (length t.list) (member (hidden_in h)) (own_in h) t.call))
 
 -- ---- what a store's turns come to
 

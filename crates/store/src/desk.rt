@@ -6,8 +6,7 @@ ghost use Rattle.theory.specs.Pairings.{at};
 ghost use Rattle.theory.specs.Kept.{kept};
 ghost use Rattle.distinct.specs.Code.Steps.{InColumn};
 ghost use Rattle.sheet.specs.Sheets.{hides};
-ghost use Rattle.sheet.specs.Code.Surveys.{sheet_of};
-ghost use Rattle.store.specs.declared.Answer.TheVariants.{Done, Seen, Listed, Refused};
+ghost use Rattle.store.specs.declared.Answer.TheVariants.{Seen, Listed};
 ghost use Rattle.refusals.specs.Cases.{decided};
 ghost use Rattle.store.specs.Calls.{desk_cases};
 ghost use Rattle.store.specs.Desks.{row_cases, hide_cases, insert_cases, list_cases, list_after};
@@ -18,96 +17,88 @@ use refusals::Refusal;
 use sets::Row;
 use sheet::Sheet;
 
-// The table lent is of the d and T that the sheet began with, and the desk is one of its desks: Done, or refusal 4 or 5.
-pub fn known(
-    d: usize,
-    rows: usize,
-    sheetd: usize,
-    sheetrows: usize,
-    desks: usize,
-    desk: usize,
-) -> Answer
-    ensures { result ≡ decided Refused (desk_cases d rows sheetd sheetrows desks desk) Done }
+// The table lent is of the d and T that the sheet began with, and the desk is one of its desks, or refusal 4 or 5.
+#[tactic(auto, unfolding(refusals::specs::Cases::decided))]
+pub fn known(d: usize, rows: usize, sheet: &Sheet, desk: usize) -> Result<(), Refusal>
+    ensures { result ≡ decided Err (desk_cases d rows sheet.now.d sheet.now.rows sheet.now.desks desk) (Ok tt) }
 {
-    if sheetd != d {
-        return Answer::Refused(Refusal::OtherTable);
+    if sheet.d != d || sheet.rows != rows {
+        return Err(Refusal::OtherTable);
     }
-    if sheetrows != rows {
-        return Answer::Refused(Refusal::OtherTable);
+    if sheet.desks <= desk {
+        return Err(Refusal::NoDesk);
     }
-    if desks <= desk {
-        return Answer::Refused(Refusal::NoDesk);
-    }
-    Answer::Done
+    Ok(())
 }
 
 // A table row is hidden, of `rows` that the table has.
-fn delete_table(rows: usize, marks: &[u64; Sheet::MARKS], desk: usize, n: usize) -> Answer
+#[tactic(auto, unfolding(refusals::specs::Cases::decided))]
+fn delete_table(rows: usize, sheet: &Sheet, desk: usize, n: usize) -> Result<(), Refusal>
     requires { (desk < most_desks) × (rows ≤ most_rows) }
-    ensures { result ≡ decided Refused (hide_cases rows (hides marks.now desk) n) Done }
+    ensures { result ≡ decided Err (hide_cases rows (hides sheet.now.marks desk) n) (Ok tt) }
 {
     if rows <= n {
-        return Answer::Refused(Refusal::NoRow);
+        return Err(Refusal::NoRow);
     }
-    if sheet::marks::hidden(marks, desk, n) {
-        return Answer::Refused(Refusal::HiddenAlready);
+    if sheet.hides(desk, n) {
+        return Err(Refusal::HiddenAlready);
     }
-    Answer::Done
+    Ok(())
 }
 
 // An own row goes, of those that the desk has.
-fn delete_own(held: usize, n: usize) -> Answer
-    ensures { result ≡ decided Refused (row_cases held n) Done }
+#[tactic(auto, unfolding(refusals::specs::Cases::decided))]
+fn delete_own(held: usize, n: usize) -> Result<(), Refusal>
+    ensures { result ≡ decided Err (row_cases held n) (Ok tt) }
 {
     if held <= n {
-        return Answer::Refused(Refusal::NoRow);
+        return Err(Refusal::NoRow);
     }
-    Answer::Done
+    Ok(())
 }
 
 // A row is put in; `full` where every free place is owed.
 #[tactic(auto, unfolding(refusals::specs::Cases::decided))]
-fn insert(d: usize, full: bool, held: usize, row: Row) -> Answer
+fn insert(d: usize, full: bool, held: usize, row: Row) -> Result<(), Refusal>
     requires { d ≤ most_values }
-    ensures { result ≡ decided Refused (insert_cases d full held (bits row)) Done }
+    ensures { result ≡ decided Err (insert_cases d full held (bits row)) (Ok tt) }
 {
     if !row.within(d) {
-        return Answer::Refused(Refusal::BadSet);
+        return Err(Refusal::BadSet);
     }
     if Sheet::HELD <= held {
-        return Answer::Refused(Refusal::Full);
+        return Err(Refusal::Full);
     }
     if held < Sheet::PROMISED {
-        return Answer::Done;
+        return Ok(());
     }
     if full {
-        return Answer::Refused(Refusal::NoRoom);
+        return Err(Refusal::NoRoom);
     }
-    Answer::Done
+    Ok(())
 }
 
 // A row of the view is shown.
-fn look(rows: &[u64], n: usize) -> Answer
-    ensures { result ≡ decided Refused (row_cases (length (rows_of rows.now)) n) (Seen (as_row (at (rows_of rows.now) n))) }
+fn look(rows: &[u64], n: usize) -> Result<Answer, Refusal>
+    ensures { result ≡ decided Err (row_cases (length (rows_of rows.now)) n) (Ok (Seen (as_row (at (rows_of rows.now) n)))) }
 {
     if sets::row_count(rows) <= n {
-        return Answer::Refused(Refusal::NoRow);
+        return Err(Refusal::NoRow);
     }
-    Answer::Seen(sets::row_at(rows, n))
+    Ok(Answer::Seen(sets::row_at(rows, n)))
 }
 
 // The kept rows of the view are listed.
-fn list_kept(d: usize, rows: &[u64], list: &mut [usize]) -> Answer
+fn list_kept(d: usize, rows: &[u64], list: &mut [usize]) -> Result<Answer, Refusal>
     requires { (length (rows_of rows.now) ≤ most_in_view) × InColumn d (rows_of rows.now) }
-    ensures { (result ≡ decided Refused (list_cases (length list.old) (length (rows_of rows.now)))
-        (Listed (length (kept d (rows_of rows.now)))))
+    ensures { (result ≡ decided Err (list_cases (length list.old) (length (rows_of rows.now)))
+        (Ok (Listed (length (kept d (rows_of rows.now))))))
         × (list.new ≡ list_after (kept d (rows_of rows.now)) result list.old) }
 {
     if list.len() < sets::row_count(rows) {
-        return Answer::Refused(Refusal::ShortList);
+        return Err(Refusal::ShortList);
     }
-    let n = distinct::distinct(d, rows, list);
-    Answer::Listed(n)
+    Ok(Answer::Listed(distinct::distinct(d, rows, list)))
 }
 
 // What a question is answered, of the rows that the desk sees, `held` of them its own; and what it writes.
@@ -117,75 +108,61 @@ fn answer_question(
     held: usize,
     question: Question,
     list: &mut [usize],
-) -> Answer
+) -> Result<Answer, Refusal>
     requires { (length (rows_of rows.now) ≤ most_in_view) × InColumn d (rows_of rows.now) }
     ensures { Replied d (rows_of rows.now) held question list.old result list.new }
 {
     match question {
         Question::Look(n) => look(rows, n),
-        Question::Count => Answer::Counted(sets::row_count(rows), held),
+        Question::Count => Ok(Answer::Counted(sets::row_count(rows), held)),
         Question::Distinct => list_kept(d, rows, list),
     }
 }
 
-// Whether a change may be made, by the parts of a sound sheet: Done, or why not.
-fn judge_change<'a>(
+// Whether a change may be made on a sound sheet.
+fn judge_change(
     table: &[u64],
     d: usize,
-    desks: usize,
-    used: usize,
-    marks: &'a [u64; Sheet::MARKS],
-    sets: &'a [u64; Sheet::SETS],
-    owners: &'a [usize; Sheet::PLACES],
+    sheet: &Sheet,
     counts: &[usize; Sheet::DESKS],
     desk: usize,
     change: Change,
-) -> Answer
-    requires { Trusted d (rows_of table.now)
-        (sheet_of d (length (rows_of table.now)) desks used marks.now sets.now owners.now) counts.now desk }
-    ensures { ChangeJudged d (rows_of table.now)
-        (sheet_of d (length (rows_of table.now)) desks used marks.now sets.now owners.now) desk change result }
+) -> Result<(), Refusal>
+    requires { Trusted d (rows_of table.now) sheet.now counts.now desk }
+    ensures { ChangeJudged d (rows_of table.now) sheet.now desk change result }
 {
     match change {
-        Change::Delete(target) => match target {
-            Target::Table(n) => delete_table(sets::row_count(table), marks, desk, n),
-            Target::Own(n) => delete_own(counts[desk], n),
-        },
+        Change::Delete(Target::Table(n)) => delete_table(sets::row_count(table), sheet, desk, n),
+        Change::Delete(Target::Own(n)) => delete_own(counts[desk], n),
         Change::Insert(row) => {
-            let owed = sheet::shares::owed(desks, counts);
-            insert(d, used + owed == Sheet::PLACES, counts[desk], row)
+            let owed = sheet.owed(counts);
+            insert(d, sheet.used + owed == Sheet::PLACES, counts[desk], row)
         }
-        Change::Reset => Answer::Done,
+        Change::Reset => Ok(()),
     }
 }
 
 // What the desk is told: the answer, and for DISTINCT the kept positions in its list.
-pub fn serve<'a>(
+pub fn serve(
     table: &[u64],
     d: usize,
-    desks: usize,
-    used: usize,
-    marks: &'a [u64; Sheet::MARKS],
-    sets: &'a [u64; Sheet::SETS],
-    owners: &'a [usize; Sheet::PLACES],
+    sheet: &Sheet,
     counts: &[usize; Sheet::DESKS],
     desk: usize,
     call: Call,
     list: &mut [usize],
-) -> Answer
-    requires { Trusted d (rows_of table.now)
-        (sheet_of d (length (rows_of table.now)) desks used marks.now sets.now owners.now) counts.now desk }
-    ensures { Served d (rows_of table.now)
-        (sheet_of d (length (rows_of table.now)) desks used marks.now sets.now owners.now) desk call
-        list.old result list.new }
+) -> Result<Answer, Refusal>
+    requires { Trusted d (rows_of table.now) sheet.now counts.now desk }
+    ensures { Served d (rows_of table.now) sheet.now desk call list.old result list.new }
 {
     match call {
-        Call::Do(change) => judge_change(
-            table, d, desks, used, marks, sets, owners, counts, desk, change,
-        ),
+        Call::Do(change) => {
+            judge_change(table, d, sheet, counts, desk, change)?;
+            Ok(Answer::Done)
+        }
         Call::Ask(question) => {
             let mut rows = [0u64; Sheet::VIEW * sets::WORDS];
-            let many = view::gather(table, marks, desk, used, sets, owners, &mut rows);
+            let many = view::gather(table, sheet, desk, &mut rows);
             answer_question(d, &rows[..many * sets::WORDS], counts[desk], question, list)
         }
     }

@@ -3,27 +3,26 @@
 
 ghost use Rattle.std.specs.Prelude.{◌≡◌, length};
 ghost use Rattle.sets.specs.Rows.{rows_of};
-ghost use Rattle.store.specs.Answers.{accepted};
-ghost use Rattle.store.specs.Calls.{begun, replied, told};
+ghost use Rattle.refusals.specs.Cases.{decided};
+ghost use Rattle.store.specs.Calls.{begin_cases, begun, replied, told};
 
-use refusals::Refusal;
+use refusals::{Refusal, tables};
 use sets::Row;
 use sheet::Sheet;
 
-mod table; // table.rt: refusals 1 and 2
 mod view; // view.rt: what a desk sees
 mod desk; // desk.rt: refusals 4 to 12, and the answers
-pub mod parts; // parts.rt: a desk's call on the parts of a sheet, where they lie
+pub mod in_place; // in_place.rt: a desk's call on a sheet, altered where it lies
 
 // What a delete is aimed at: a table row by its number, or an own row by its place among the desk's own.
-#[derive(Clone, Copy)]
+#[derive(Clone, Copy, PartialEq, Eq)]
 pub enum Target {
     Table(usize),
     Own(usize),
 }
 
 // What a desk may do to what it sees: `Insert` holds the row.
-#[derive(Clone, Copy)]
+#[derive(Clone, Copy, PartialEq, Eq)]
 pub enum Change {
     Delete(Target),
     Insert(Row),
@@ -31,7 +30,7 @@ pub enum Change {
 }
 
 // What a desk may ask: a question hands the sheet back as it came.
-#[derive(Clone, Copy)]
+#[derive(Clone, Copy, PartialEq, Eq)]
 pub enum Question {
     Look(usize),
     Count,
@@ -39,68 +38,52 @@ pub enum Question {
 }
 
 // The calls of a desk.
-#[derive(Clone, Copy)]
+#[derive(Clone, Copy, PartialEq, Eq)]
 pub enum Call {
     Do(Change),
     Ask(Question),
 }
 
-// What is answered: a change is done; the set at a position; the rows in the view and the own rows; how many positions were listed; or a refusal.
-#[derive(Clone, Copy)]
+// What an accepted call is answered: a change is done; the set at a position; the rows in the view and the own rows; how many positions were listed.
+#[derive(Clone, Copy, PartialEq, Eq)]
 pub enum Answer {
     Done,
     Seen(Row),
     Counted(usize, usize),
     Listed(usize),
-    Refused(Refusal),
 }
 
 // What every call hands back.
 #[derive(Clone, Copy)]
 pub struct Reply {
-    pub answer: Answer,
+    pub answer: Result<Answer, Refusal>,
     pub sheet: Sheet,
 }
 
-// The call is done, not refused.
-fn accepted(answer: Answer) -> bool
-    ensures { result ≡ accepted answer }
+// Whether a lesson may begin: refusals 1, 2 and 13.
+fn may_begin(table: &[u64], d: usize, desks: usize) -> Result<(), Refusal>
+    ensures { result ≡ decided Err (begin_cases d (rows_of table.now) desks) (Ok tt) }
 {
-    match answer {
-        Answer::Done => true,
-        Answer::Seen(_) => true,
-        Answer::Counted(_, _) => true,
-        Answer::Listed(_) => true,
-        Answer::Refused(_) => false,
+    tables::judge(table, d, Sheet::ROWS)?;
+    if desks == 0 || Sheet::DESKS < desks {
+        return Err(Refusal::BadDesks);
     }
+    Ok(())
 }
 
 // A lesson begins: a fresh sheet for this table, or a sheet of zeros, which no call accepts.
 pub fn begin(table: &[u64], d: usize, desks: usize) -> Reply
     ensures { result ≡ begun d (rows_of table.now) desks }
 {
-    let answer = table::judge(table, d);
-    if !accepted(answer) {
-        return Reply {
-            answer,
+    match may_begin(table, d, desks) {
+        Ok(()) => Reply {
+            answer: Ok(Answer::Done),
+            sheet: Sheet::fresh(d, sets::row_count(table), desks),
+        },
+        Err(refusal) => Reply {
+            answer: Err(refusal),
             sheet: Sheet::fresh(0, 0, 0),
-        };
-    }
-    if desks == 0 {
-        return Reply {
-            answer: Answer::Refused(Refusal::BadDesks),
-            sheet: Sheet::fresh(0, 0, 0),
-        };
-    }
-    if Sheet::DESKS < desks {
-        return Reply {
-            answer: Answer::Refused(Refusal::BadDesks),
-            sheet: Sheet::fresh(0, 0, 0),
-        };
-    }
-    Reply {
-        answer,
-        sheet: Sheet::fresh(d, sets::row_count(table), desks),
+        },
     }
 }
 
@@ -108,7 +91,7 @@ pub fn begin(table: &[u64], d: usize, desks: usize) -> Reply
 pub fn desk_call(
     table: &[u64],
     d: usize,
-    sheet: Sheet,
+    mut sheet: Sheet,
     desk: usize,
     call: Call,
     list: &mut [usize],
@@ -116,35 +99,6 @@ pub fn desk_call(
     ensures { (result ≡ replied d (rows_of table.now) sheet desk call (length list.old))
         × (list.new ≡ (told d (rows_of table.now) sheet desk call list.old).list) }
 {
-    let mut marks = sheet.marks;
-    let mut sets = sheet.sets;
-    let mut owners = sheet.owners;
-    let outcome = parts::carry_out(
-        table,
-        d,
-        sheet.d,
-        sheet.rows,
-        sheet.desks,
-        sheet.used,
-        &mut marks,
-        &mut sets,
-        &mut owners,
-        desk,
-        call,
-        list,
-    );
-    let answer = outcome.answer;
-    let next = Sheet {
-        d: sheet.d,
-        rows: sheet.rows,
-        desks: sheet.desks,
-        used: outcome.used,
-        marks,
-        sets,
-        owners,
-    };
-    Reply {
-        answer,
-        sheet: next,
-    }
+    let answer = in_place::carry_out(&mut sheet, table, d, desk, call, list);
+    Reply { answer, sheet }
 }

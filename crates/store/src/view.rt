@@ -9,18 +9,14 @@ ghost use Rattle.store.specs.Code.Views.{Filled, Viewed};
 use sheet::Sheet;
 
 // The table rows that the desk does not hide go to the front of the rows. Answers how many.
-fn put_table(table: &[u64], marks: &[u64; Sheet::MARKS], desk: usize, rows: &mut [u64]) -> usize
+fn put_table(table: &[u64], sheet: &Sheet, desk: usize, rows: &mut [u64]) -> usize
     requires { (desk < most_desks) × (length (rows_of table.now) ≤ most_rows) × (length (rows_of rows.old) ≡ most_in_view) }
-    ensures { Filled (λ i. not (hides marks.now desk i)) (rows_of table.now)
+    ensures { Filled (λ i. not (hides sheet.now.marks desk i)) (rows_of table.now)
         (length (rows_of table.now)) 0 (rows_of rows.old) result (rows_of rows.new) }
 {
-    let many = sets::row_count(table);
     let mut n: usize = 0;
-    let mut next: usize = 0;
-    while next < many {
-        let i = next;
-        next += 1;
-        if !sheet::marks::hidden(marks, desk, i) {
+    for i in 0..sets::row_count(table) {
+        if !sheet.hides(desk, i) {
             sets::put_row(rows, n, sets::row_at(table, i));
             n += 1;
         }
@@ -29,25 +25,16 @@ fn put_table(table: &[u64], marks: &[u64; Sheet::MARKS], desk: usize, rows: &mut
 }
 
 // The desk's own rows go behind the first `start` rows. Answers how many rows there are then.
-fn put_own<'a>(
-    desk: usize,
-    used: usize,
-    sets: &'a [u64; Sheet::SETS],
-    owners: &'a [usize; Sheet::PLACES],
-    start: usize,
-    rows: &mut [u64],
-) -> usize
-    requires { (used ≤ most_places) × (length (rows_of rows.old) ≡ most_in_view) × (start + count_to (owns owners.now desk) used ≤ most_in_view) }
-    ensures { Filled (owns owners.now desk) (rows_of sets.now) used start
+fn put_own(sheet: &Sheet, desk: usize, start: usize, rows: &mut [u64]) -> usize
+    requires { (sheet.now.used ≤ most_places) × (length (rows_of rows.old) ≡ most_in_view)
+        × (start + count_to (owns sheet.now.owners desk) sheet.now.used ≤ most_in_view) }
+    ensures { Filled (owns sheet.now.owners desk) (rows_of sheet.now.sets) sheet.now.used start
         (rows_of rows.old) result (rows_of rows.new) }
 {
     let mut n = start;
-    let mut next: usize = 0;
-    while next < used {
-        let i = next;
-        next += 1;
-        if owners[i] == desk {
-            sets::put_row(rows, n, sets::row_at(sets, i));
+    for i in 0..sheet.used {
+        if sheet.owners[i] == desk {
+            sets::put_row(rows, n, sets::row_at(&sheet.sets, i));
             n += 1;
         }
     }
@@ -55,20 +42,13 @@ fn put_own<'a>(
 }
 
 // The desk's view goes to the front of the rows. Answers how many rows it has.
-pub fn gather<'a>(
-    table: &[u64],
-    marks: &'a [u64; Sheet::MARKS],
-    desk: usize,
-    used: usize,
-    sets: &'a [u64; Sheet::SETS],
-    owners: &'a [usize; Sheet::PLACES],
-    rows: &mut [u64],
-) -> usize
+pub fn gather(table: &[u64], sheet: &Sheet, desk: usize, rows: &mut [u64]) -> usize
     requires { (desk < most_desks) × (length (rows_of table.now) ≤ most_rows)
-        × (used ≤ most_places) × (count_to (owns owners.now desk) used ≤ most_held) × (length (rows_of rows.old) ≡ most_in_view) }
-    ensures { Viewed (rows_of table.now) (hides marks.now desk)
-        (those (owns owners.now desk) (rows_of sets.now) used) result (rows_of rows.new) }
+        × (sheet.now.used ≤ most_places) × (count_to (owns sheet.now.owners desk) sheet.now.used ≤ most_held)
+        × (length (rows_of rows.old) ≡ most_in_view) }
+    ensures { Viewed (rows_of table.now) (hides sheet.now.marks desk)
+        (those (owns sheet.now.owners desk) (rows_of sheet.now.sets) sheet.now.used) result (rows_of rows.new) }
 {
-    let seen = put_table(table, marks, desk, rows);
-    put_own(desk, used, sets, owners, seen, rows)
+    let seen = put_table(table, sheet, desk, rows);
+    put_own(sheet, desk, seen, rows)
 }
