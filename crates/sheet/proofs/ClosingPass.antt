@@ -4,6 +4,7 @@ use mathlib.Core.Path.{◌≡◌, refl, sym, ap, ◌∙◌}
 use mathlib.Core.Bool.{Bool, true, false, not, cond, ◌&&◌}
 use mathlib.Core.List.{List, [], ◌∷◌, ◌++◌}
 use native.Mathlib.Omega.{arith}
+use Rattle.std.specs.Int.{from_bool}
 use lib.Dec.{eqb, leb, ltb}
 use lib.ListN.{length, set, take, drop, length-set}
 use lib.Seq.{drop-cons, get_or-drop, take-suc-set, take-set-le, drop-set-lt}
@@ -14,7 +15,6 @@ use Rattle.theory.specs.Pairings.{at}
 use Rattle.sheet.specs.Upto.{count_to, those}
 use Rattle.sheet.specs.Sheets.{owns}
 use Rattle.sheet.specs.Changes.{stays}
-use Rattle.sheet.specs.Code.Removals.{ClosedUp}
 use Rattle.sheet.proofs.UptoLaws.{count-le, those_yes, those_no}
 use Rattle.sheet.proofs.PlaceRows.{place_rows, put_before}
 
@@ -62,6 +62,11 @@ module _ (f : ℕ → Bool) (old : List ℕ) (n left x : ℕ) (same : x ≡ at o
 
 -- ---- the pass
 
+-- one more where it is true
+counted_on : (b : Bool) (n : ℕ) → n + from_bool b ≡ cond b (suc n) n
+counted_on true n = omega arith
+counted_on false n = omega arith
+
 -- the first `next` places are passed; `seen` of them are the desk's, and `left` of them stay, in front
 pub record Passing (k from upto : ℕ) (sets owners : List ℕ) (seen left next : ℕ) (sets' owners' : List ℕ) : Type 0 where
   pub seen_is : seen ≡ count_to (owns owners k) next
@@ -91,16 +96,9 @@ module _ {k from upto : ℕ} {sets owners : List ℕ} {seen left next : ℕ} {se
   pub passing_few : (seen ≤ next) × (left ≤ next)
   passing_few = (omega (arith, P.seen_is, count-le (owns owners k) next), omega (arith, P.left_is, count-le (stays owners k from upto) next))
 
-  -- the places that are read and put down are there
-  pub passing_room : next < most_places → (next < length (rows_of sets')) × (left < length (rows_of sets')) × (left < length owners')
-  passing_room h =
-      let many = place_rows sets' (P.long ∙ s) in
-      let few = passing_few.1 in
-      (omega arith, omega arith, omega (arith, P.desks_kept.long))
-
   -- one place more: what the code learns of its owner, and whether its row goes
   module _ (gone : Bool) (says : gone ≡ (eqb (at owners' next) k && (leb from seen && ltb seen upto)))
-      (seen' : ℕ) (more : seen' ≡ cond (eqb (at owners' next) k) (suc seen) seen) (left' : ℕ) (rest : left' ≡ cond (not gone) (suc left) left) where
+      (one : ℕ) (more : one ≡ from_bool (eqb (at owners' next) k)) (kept : ℕ) (rest : kept ≡ from_bool (not gone)) where
     owns_is : eqb (at owners' next) k ≡ owns owners k next
     owns_is = ap (λ (o : ℕ). eqb o k) (kept_at P.desks_kept)
 
@@ -109,27 +107,28 @@ module _ {k from upto : ℕ} {sets owners : List ℕ} {seen left next : ℕ} {se
         ap not (says ∙ ap (λ (b : Bool). b && (leb from seen && ltb seen upto)) owns_is
         ∙ ap (λ (n : ℕ). owns owners k next && (leb from n && ltb n upto)) P.seen_is)
 
-    left_more : left' ≡ cond (stays owners k from upto next) (suc left) left
-    left_more = rest ∙ ap (λ (b : Bool). cond b (suc left) left) stay_is
+    seen_more : seen + one ≡ cond (owns owners k next) (suc seen) seen
+    seen_more = ap (λ (n : ℕ). seen + n) more ∙ counted_on (eqb (at owners' next) k) seen ∙ ap (λ (b : Bool). cond b (suc seen) seen) owns_is
+
+    left_more : left + kept ≡ cond (stays owners k from upto next) (suc left) left
+    left_more = ap (λ (n : ℕ). left + n) rest ∙ counted_on (not gone) left ∙ ap (λ (b : Bool). cond b (suc left) left) stay_is
 
     -- its row is put down
     pub passing_more : next < most_places → (row : ℕ) → row ≡ at (rows_of sets') next → (sets'' : List ℕ) → sets'' ≡ put_row sets' left row
-        → Passing k from upto sets owners seen' left' (suc next) sets'' (set owners' left (at owners' next))
+        → Passing k from upto sets owners (seen + one) (left + kept) (suc next) sets'' (set owners' left (at owners' next))
     unfolding count_to
     passing_more h row same sets'' put =
-        let room = passing_room h in
-        let rows'' = ap rows_of put ∙ rows_put sets' left row room.1 (rw same (rows_less sets' next)) in
+        let few = passing_few.1 in
+        let many = place_rows sets' (P.long ∙ s) in
+        let rows'' = ap rows_of put ∙ rows_put sets' left row (omega arith) (rw same (rows_less sets' next)) in
         record {
-          seen_is = more ∙ ap (λ (b : Bool). cond b (suc seen) seen) owns_is ∙ ap (λ (n : ℕ). cond (owns owners k next) (suc n) n) P.seen_is;
+          seen_is = seen_more ∙ ap (λ (n : ℕ). cond (owns owners k next) (suc n) n) P.seen_is;
           left_is = left_more ∙ ap (λ (n : ℕ). cond (stays owners k from upto next) (suc n) n) P.left_is;
           rows = rw (left_more, put)
-              (words_more (stays owners k from upto) (rows_of sets) next left row (same ∙ kept_at P.rows_kept) sets' room.1 P.rows);
+              (words_more (stays owners k from upto) (rows_of sets) next left row (same ∙ kept_at P.rows_kept) sets' (omega arith) P.rows);
           desks = rw left_more
-              (front_more (stays owners k from upto) owners next left (at owners' next) (kept_at P.desks_kept) owners' room.2 P.desks);
+              (front_more (stays owners k from upto) owners next left (at owners' next) (kept_at P.desks_kept) owners' (omega (arith, P.desks_kept.long)) P.desks);
           rows_kept = rw rows'' (kept_more P.rows_kept left row passing_few.1 (omega (arith, place_rows sets s)));
           desks_kept = kept_more P.desks_kept left (at owners' next) passing_few.1 (omega arith);
           long = ap length put ∙ put_length sets' left row ∙ P.long;
         }
-
-  pub passing_done : ClosedUp k from upto sets owners next left sets' owners'
-  passing_done = record { count = P.left_is; rows = P.rows; desks = P.desks; long = (P.long ∙ s, P.desks_kept.long ∙ o) }

@@ -7,7 +7,10 @@ use mathlib.Core.List.{List, [], ◌∷◌}
 use native.Mathlib.Decide.{ℕ_discrete, dec_lt}
 use native.Mathlib.Omega.{arith}
 use lib.Bits.{bit_or}
-use lib.ListN.{length, set, length-set}
+use lib.ListN.{length, set, length-set, replicate}
+use lib.Seq.{paste, paste-zero}
+use Rattle.std.proofs.Common.{add-one}
+use Rattle.std.proofs.lemmas.List.Edits.{fill_from_more}
 use borrow.Author.Tests.{ne_eqb}
 use Rattle.sets.specs.Limits.{most_desks, most_rows, word_bits}
 use Rattle.theory.specs.Pairings.{at}
@@ -78,6 +81,13 @@ at_unwiped marks first zero i out = refl
 at_unwiped marks first (suc n) i (inl h) = at_other (wiped marks first n) (first + n) zero i (omega arith) ∙ at_unwiped marks first n i (inl h)
 at_unwiped marks first (suc n) i (inr h) =
     at_other (wiped marks first n) (first + n) zero i (omega arith) ∙ at_unwiped marks first n i (inr (omega arith))
+
+-- they are overwritten as a whole
+pub wiped-replicate : (marks : List ℕ) (first n : ℕ) → first + n ≤ length marks → wiped marks first n ≡ paste marks first (replicate n zero) n
+unfolding wiped
+wiped-replicate marks first zero h = paste-zero marks first []
+wiped-replicate marks first (suc n) h =
+    ap (λ (l : List ℕ). set l (first + n) zero) (wiped-replicate marks first n (omega arith)) ∙ simp add-one at (fill_from_more marks first n zero (omega arith))
 
 -- ---- a desk's marks are taken off
 

@@ -12,6 +12,7 @@ pub mod ClosingUp
 pub mod PlaceRows
 pub mod OwnAfter
 pub mod ClosingPass
+pub mod Fills
 pub mod EmptyPlaces
 pub mod HidesAfter
 pub mod SoundAfter

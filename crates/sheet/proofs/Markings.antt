@@ -3,7 +3,6 @@ use Prim.Native.Nat.{ℕ, zero, suc, ◌+◌, ◌-◌, ◌*◌, ◌/◌, ◌%◌
 use mathlib.Core.Path.{◌≡◌, refl, sym, ap, ◌∙◌, subst}
 use mathlib.Core.Logic.{◌⊎◌, inl, inr}
 use mathlib.Core.Bool.{Bool, true, false, not, ◌&&◌, ◌||◌}
-use mathlib.Core.List.{List}
 use native.Mathlib.Decide.{dec_lt}
 use native.Mathlib.Omega.{arith}
 use lib.Dec.{ltb}
@@ -17,7 +16,8 @@ use Rattle.sets.proofs.ValuesBelow.{has_all, all-has, has_less, some_value}
 use Rattle.theory.specs.Pairings.{at}
 use Rattle.sheet.specs.Upto.{all_to}
 use Rattle.sheet.specs.Sheets.{hides, marked_right, mark_words, all_marks}
-use Rattle.sheet.specs.Code.Surveys.{marks_of, MayHide}
+use Rattle.sheet.specs.Code.Surveys.{MayHide}
+use Rattle.sheet.specs.declared.Sheet.{Sheet}
 use Rattle.sheet.proofs.UptoLaws.{all_fails, all_intro, top_or-below}
 
 -- ---- the rows that a word may have
@@ -29,85 +29,85 @@ module _ (desks rows w r : ℕ) where
       record { only = λ v h. absurd (not_both h (ap (λ (x : ℕ). has x v) z ∙ has-empty v)); all = λ v _ k l. absurd (no_row v k l) }
 
   -- the first n, up to T
-  pub may_first : (n : ℕ) → r ≡ 2 ^ n - 1 → w / mark_words < desks → w % mark_words * word_bits + n ≤ rows
+  pub may_first : (n : ℕ) → r ≡ 2 ^ n - 1 → w / mark_words < desks → ((v : ℕ) → v < n → w % mark_words * word_bits + v < rows)
       → ((v : ℕ) → v < word_bits → w % mark_words * word_bits + v < rows → v < n) → MayHide desks rows w r
-  may_first n e k l full =
+  may_first n e k few full =
       record {
-        only = λ v h. let b : v < n = has_all n v (ap (λ (x : ℕ). has x v) (sym e) ∙ h) in (k, omega arith);
+        only = λ v h. (k, few v (has_all n v (ap (λ (x : ℕ). has x v) (sym e) ∙ h)));
         all = λ v b _ h. ap (λ (x : ℕ). has x v) e ∙ all-has n v (full v b h);
       }
 
 -- ---- all words
 
 -- every word before the next has only rows that it may have
-pub record Marked (desks rows : ℕ) (marks : List ℕ) (next : ℕ) : Type 0 where
-  pub before : (w : ℕ) → w < next → (v : ℕ) → has (at marks w) v ≡ true → (w / mark_words < desks) × (w % mark_words * word_bits + v < rows)
+pub record Marked (s : Sheet) (next : ℕ) : Type 0 where
+  pub before : (w : ℕ) → w < next → (v : ℕ) → has (at s.marks w) v ≡ true → (w / mark_words < s.desks) × (w % mark_words * word_bits + v < s.rows)
 
 -- the test of row n of desk k
-abbrev allowed : ℕ → ℕ → List ℕ → ℕ → ℕ → Bool
-allowed desks rows marks k n = not (hides marks k n) || (ltb k desks && ltb n rows)
+abbrev allowed : Sheet → ℕ → ℕ → Bool
+allowed s k n = not (hides s.marks k n) || (ltb k s.desks && ltb n s.rows)
 
-module _ (desks rows : ℕ) (marks : List ℕ) where
-  pub marked_start : Marked desks rows marks zero
+module _ (s : Sheet) where
+  pub marked_start : Marked s zero
   marked_start = record { before = λ w h. absurd (omega arith) }
 
   -- a word with a row that it may not have
-  pub marked_wrong : (w r : ℕ) → w < all_marks → at marks w < 2 ^ word_bits → MayHide desks rows w r → subset (at marks w) r ≡ false
-      → false ≡ marked_right (marks_of desks rows marks)
+  pub marked_wrong : (w r : ℕ) → w < all_marks → at s.marks w < 2 ^ word_bits → MayHide s.desks s.rows w r → subset (at s.marks w) r ≡ false
+      → false ≡ marked_right s
   unfolding marked_right hides
   marked_wrong w r h small may e =
-      sym (all_fails (λ k. all_to (allowed desks rows marks k) most_rows) most_desks (w / mark_words) (omega arith)
-      (all_fails (allowed desks rows marks (w / mark_words)) most_rows n (omega (arith, low)) (rw (hid, out) refl)))
+      sym (all_fails (λ k. all_to (allowed s k) most_rows) most_desks (w / mark_words) (omega arith)
+      (all_fails (allowed s (w / mark_words)) most_rows n (omega (arith, low)) (rw (hid, out) refl)))
     where
-      found : (v : ℕ) × (has (minus (at marks w) r) v ≡ true)
-      found = some_value (minus (at marks w) r) (λ z. not_both (has-subset (at marks w) r (minus_none (at marks w) r z)) e)
+      found : (v : ℕ) × (has (minus (at s.marks w) r) v ≡ true)
+      found = some_value (minus (at s.marks w) r) (λ z. not_both (has-subset (at s.marks w) r (minus_none (at s.marks w) r z)) e)
 
       v : ℕ
       v = found.0
 
-      there : (has (at marks w) v ≡ true) × (has r v ≡ false)
-      there = minus_out (at marks w) r v found.1
+      there : (has (at s.marks w) v ≡ true) × (has r v ≡ false)
+      there = minus_out (at s.marks w) r v found.1
 
       low : v < word_bits
-      low = has_less word_bits (at marks w) v small there.0
+      low = has_less word_bits (at s.marks w) v small there.0
 
       n : ℕ
       n = w % mark_words * word_bits + v
 
-      hid : has (at marks (w / mark_words * mark_words + n / word_bits)) (n % word_bits) ≡ true
-      hid = ap (λ (x : ℕ). has (at marks x) (n % word_bits)) (omega (arith, low)) ∙ ap (has (at marks w)) (omega (arith, low)) ∙ there.0
+      hid : has (at s.marks (w / mark_words * mark_words + n / word_bits)) (n % word_bits) ≡ true
+      hid = ap (λ (x : ℕ). has (at s.marks x) (n % word_bits)) (omega (arith, low)) ∙ ap (has (at s.marks w)) (omega (arith, low)) ∙ there.0
 
-      out : (ltb (w / mark_words) desks && ltb n rows) ≡ false
-      out = elim (dec_lt (w / mark_words) desks) [
-        | no far ↦ rw (le-ltb (w / mark_words) desks (omega (arith, far))) refl
-        | yes k ↦ rw (lt-ltb (w / mark_words) desks k) (le-ltb n rows (elim (dec_lt n rows) [
+      out : (ltb (w / mark_words) s.desks && ltb n s.rows) ≡ false
+      out = elim (dec_lt (w / mark_words) s.desks) [
+        | no far ↦ rw (le-ltb (w / mark_words) s.desks (omega (arith, far))) refl
+        | yes k ↦ rw (lt-ltb (w / mark_words) s.desks k) (le-ltb n s.rows (elim (dec_lt n s.rows) [
           | no far ↦ omega (arith, far)
           | yes l ↦ absurd (not_both (may.all v low k l) there.1)
         ]))
       ]
 
-module _ {desks rows : ℕ} {marks : List ℕ} {next : ℕ} (m : Marked desks rows marks next) where
-  pub marked_more : (r : ℕ) → MayHide desks rows next r → subset (at marks next) r ≡ true → Marked desks rows marks (suc next)
+module _ {s : Sheet} {next : ℕ} (m : Marked s next) where
+  pub marked_more : (r : ℕ) → MayHide s.desks s.rows next r → subset (at s.marks next) r ≡ true → Marked s (suc next)
   marked_more r may e = record { before = before }
     where
-      before : (w : ℕ) → w < suc next → (v : ℕ) → has (at marks w) v ≡ true → (w / mark_words < desks) × (w % mark_words * word_bits + v < rows)
+      before : (w : ℕ) → w < suc next → (v : ℕ) → has (at s.marks w) v ≡ true → (w / mark_words < s.desks) × (w % mark_words * word_bits + v < s.rows)
       before w h v t = elim (top_or-below next w h) [
         | inl q ↦
-            subst (λ (x : ℕ). (x / mark_words < desks) × (x % mark_words * word_bits + v < rows)) (sym q)
-            (may.only v (subset-has (at marks next) r e v (ap (λ (x : ℕ). has (at marks x) v) (sym q) ∙ t)))
+            subst (λ (x : ℕ). (x / mark_words < s.desks) × (x % mark_words * word_bits + v < s.rows)) (sym q)
+            (may.only v (subset-has (at s.marks next) r e v (ap (λ (x : ℕ). has (at s.marks x) v) (sym q) ∙ t)))
         | inr l ↦ m.before w l v t
       ]
 
-  pub marked_all : all_marks ≤ next → true ≡ marked_right (marks_of desks rows marks)
+  pub marked_all : all_marks ≤ next → true ≡ marked_right s
   unfolding marked_right hides
   marked_all h =
-      sym (all_intro (λ k. all_to (allowed desks rows marks k) most_rows) most_desks
-      (λ k kl. all_intro (allowed desks rows marks k) most_rows (λ n nl. one k kl n nl (true_or_false (hides marks k n)))))
+      sym (all_intro (λ k. all_to (allowed s k) most_rows) most_desks
+      (λ k kl. all_intro (allowed s k) most_rows (λ n nl. one k kl n nl (true_or_false (hides s.marks k n)))))
     where
-      one : (k : ℕ) → k < most_desks → (n : ℕ) → n < most_rows → (hides marks k n ≡ true) ⊎ (hides marks k n ≡ false)
-          → allowed desks rows marks k n ≡ true
-      one k kl n nl (inr f) = or_left (not (hides marks k n)) (ltb k desks && ltb n rows) (ap not f)
+      one : (k : ℕ) → k < most_desks → (n : ℕ) → n < most_rows → (hides s.marks k n ≡ true) ⊎ (hides s.marks k n ≡ false)
+          → allowed s k n ≡ true
+      one k kl n nl (inr f) = or_left (not (hides s.marks k n)) (ltb k s.desks && ltb n s.rows) (ap not f)
       one k kl n nl (inl t) =
           let ok = m.before (k * mark_words + n / word_bits) (omega arith) (n % word_bits) t in
-          or_right (not (hides marks k n)) (ltb k desks && ltb n rows)
-          (and_both (ltb k desks) (ltb n rows) (lt-ltb k desks (omega (arith, ok.0))) (lt-ltb n rows (omega (arith, ok.1))))
+          or_right (not (hides s.marks k n)) (ltb k s.desks && ltb n s.rows)
+          (and_both (ltb k s.desks) (ltb n s.rows) (lt-ltb k s.desks (omega (arith, ok.0))) (lt-ltb n s.rows (omega (arith, ok.1))))

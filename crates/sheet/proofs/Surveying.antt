@@ -2,11 +2,12 @@
 use Prim.Native.Nat.{ℕ, zero, suc, ◌≤◌, ◌<◌}
 use mathlib.Core.Path.{◌≡◌, refl, sym, ap, ◌∙◌}
 use mathlib.Core.Logic.{◌≢◌, inl, inr}
-use mathlib.Core.Bool.{Bool, true, false, ◌&&◌, ◌||◌, false≢true}
+use mathlib.Core.Bool.{Bool, true, false, ◌&&◌, ◌||◌}
 use mathlib.Core.List.{List}
 use native.Mathlib.Nat.{not-suc-le-zero}
 use native.Mathlib.Decide.{ℕ_discrete}
 use native.Mathlib.Omega.{arith}
+use Rattle.std.specs.Bool.{then_some}
 use lib.Dec.{eqb, ltb}
 use lib.ListN.{length, set, replicate, length-set, length-replicate, get_or-replicate}
 use borrow.Author.Tests.{lt-ltb, le-ltb, eq-eqb, ne_eqb}
@@ -19,7 +20,7 @@ use Rattle.theory.proofs.Places.{at_same, at_other}
 use Rattle.sheet.specs.declared.Sheet.{Sheet}
 use Rattle.sheet.specs.Upto.{count_to, all_to}
 use Rattle.sheet.specs.Sheets.{owns, owned, empty, placed}
-use Rattle.sheet.specs.Code.Surveys.{Surveyed}
+use Rattle.sheet.specs.Code.Surveys.{Counted, Surveyed}
 use Rattle.sheet.proofs.UptoLaws.{all_fails, all_intro, top_or-below, count_yes, count_no, count-le}
 
 -- ---- the places that are not used
@@ -74,6 +75,11 @@ pub record Tallied (s : Sheet) (counts : List ℕ) (next : ℕ) : Type 0 where
   pub long : length counts ≡ most_desks
   pub counted : (k : ℕ) → k < most_desks → at counts k ≡ count_to (owns s.owners k) next
 
+-- what is learnt where all of a survey is known
+pub surveyed : (right : Sheet → Bool) (s : Sheet) (counts : List ℕ) (b : Bool) → right s ≡ b → Counted s counts → Surveyed right s (then_some b counts)
+surveyed right s counts true e c = (e, c)
+surveyed right s counts false e c = e
+
 module _ (s : Sheet) where
   pub tally_start : {counts : List ℕ} → counts ≡ replicate most_desks zero → Tallied s counts zero
   unfolding count_to
@@ -85,13 +91,9 @@ module _ (s : Sheet) where
   }
 
   -- one used place is not right
-  pub tally_wrong : (counts : List ℕ) (i : ℕ) → i < s.used → owned s i ≡ false → length counts ≡ most_desks → Surveyed placed s false counts
+  pub tally_wrong : (i : ℕ) → i < s.used → owned s i ≡ false → placed s ≡ false
   unfolding placed
-  tally_wrong counts i h e long = record {
-    right_is = sym (ap (λ (b : Bool). b && all_to (λ j. ltb j s.used || empty s j) most_places) (all_fails (owned s) s.used i h e));
-    counted = λ t. absurd (false≢true t);
-    long = long;
-  }
+  tally_wrong i h e = ap (λ (b : Bool). b && all_to (λ j. ltb j s.used || empty s j) most_places) (all_fails (owned s) s.used i h e)
 
 module _ {s : Sheet} {counts : List ℕ} {next : ℕ} (t : Tallied s counts next) where
   pub tally_owner : s.desks ≤ at s.owners next → owned s next ≡ false
@@ -99,10 +101,6 @@ module _ {s : Sheet} {counts : List ℕ} {next : ℕ} (t : Tallied s counts next
 
   pub tally_row : at s.owners next < s.desks → within s.d (at (rows_of s.sets) next) ≡ false → owned s next ≡ false
   tally_row h e = rw (lt-ltb (at s.owners next) s.desks h, e) refl
-
-  -- as many counts as came in
-  pub tally_kept : {old : List ℕ} → old ≡ replicate most_desks zero → length counts ≡ length old
-  tally_kept e = t.long ∙ sym (ap length e ∙ length-replicate most_desks zero)
 
   -- so that a count can be raised
   pub tally_small : (k : ℕ) → k < most_desks → at counts k ≤ next
@@ -136,15 +134,16 @@ module _ {s : Sheet} {counts : List ℕ} {next : ℕ} (t : Tallied s counts next
       other k l ne =
           at_other counts o (suc (at counts o)) k ne ∙ t.counted k l ∙ sym (count_no (owns s.owners k) next (ne_eqb o k (λ q. ne (sym q))))
 
-  pub tally_all : s.used ≤ next → (right : Bool) → right ≡ all_to (spare s.used (rows_of s.sets) s.owners) most_places
-      → Surveyed placed s right counts
-  unfolding placed
-  tally_all h right e =
-      let all : next ≡ s.used = omega (arith, t.upto) in
-      record {
-        right_is = e
-            ∙ sym (ap (λ (b : Bool). b && all_to (spare s.used (rows_of s.sets) s.owners) most_places)
-            (all_intro (owned s) s.used (λ i l. t.before i (omega arith))));
-        counted = λ _ k l. t.counted k l ∙ ap (count_to (owns s.owners k)) all;
-        long = t.long;
-      }
+  -- all of them are
+  module _ (h : s.used ≤ next) where
+    all : next ≡ s.used
+    all = omega (arith, t.upto)
+
+    pub tally_all : placed s ≡ all_to (spare s.used (rows_of s.sets) s.owners) most_places
+    unfolding placed
+    tally_all =
+        ap (λ (b : Bool). b && all_to (spare s.used (rows_of s.sets) s.owners) most_places)
+        (all_intro (owned s) s.used (λ i l. t.before i (omega (arith, all))))
+
+    pub tally_counted : Counted s counts
+    tally_counted = record { long = t.long; each = λ k l. t.counted k l ∙ ap (count_to (owns s.owners k)) all }

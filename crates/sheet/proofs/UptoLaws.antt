@@ -3,12 +3,17 @@
 use Prim.Native.Nat.{ℕ, zero, suc, ◌+◌, ◌*◌, ◌≤◌, ◌<◌}
 use mathlib.Core.Path.{◌≡◌, refl, ap, ◌∙◌}
 use mathlib.Core.Logic.{◌≢◌, ◌⊎◌, inl, inr}
-use mathlib.Core.Bool.{Bool, true, false, cond}
+use mathlib.Core.Bool.{Bool, true, false, cond, ◌&&◌}
 use mathlib.Core.List.{List, [], ◌∷◌, ◌++◌, append-nil}
 use native.Mathlib.Nat.{not-suc-le-zero}
 use native.Mathlib.Decide.{ℕ_discrete}
 use native.Mathlib.Omega.{arith}
-use lib.ListN.{length, length-append}
+use Rattle.std.proofs.Common.{add-one}
+use lib.ListN.{length, take, length-append}
+use Rattle.std.specs.List.{list_all, sum_by}
+use Rattle.std.proofs.lemmas.List.{take_more}
+use Rattle.std.proofs.lemmas.List.Folds.{list_all_more}
+use Rattle.std.proofs.lemmas.List.Sums.{sum_by_push}
 use Rattle.theory.specs.Pairings.{at}
 use Rattle.sets.proofs.Bools.{and_left, and_right, and_both, true_or_false, not_both}
 use Rattle.sheet.specs.Upto.{count_to, all_to, sum_to, those}
@@ -147,3 +152,19 @@ pub sum_most : (g : ℕ → ℕ) (n c : ℕ) → ((i : ℕ) → i < n → g i �
 unfolding sum_to
 sum_most g zero c p = omega arith
 sum_most g (suc n) c p = omega (arith, sum_most g n c (λ i h. p i (omega arith)), p n (omega arith))
+
+-- ---- the first n of a list
+
+-- what std says of the first n of a list, said of the numbers below n
+pub all_take : (p : ℕ → Bool) (l : List ℕ) (n : ℕ) → n ≤ length l → list_all p (take n l) ≡ all_to (λ k. p (at l k)) n
+unfolding all_to
+all_take p l zero h = refl
+all_take p l (suc n) h =
+    simp add-one at (list_all_more p l n zero (omega arith)) ∙ ap (λ (b : Bool). b && p (at l n)) (all_take p l n (omega arith))
+
+pub sum_take : (g : ℕ → ℕ) (l : List ℕ) (n : ℕ) → n ≤ length l → sum_by g (take n l) ≡ sum_to (λ k. g (at l k)) n
+unfolding sum_to
+sum_take g l zero h = refl
+sum_take g l (suc n) h =
+    ap (sum_by g) (simp add-one at (take_more l n zero (omega arith))) ∙ sum_by_push g (take n l) (at l n)
+    ∙ ap (λ (m : ℕ). m + g (at l n)) (sum_take g l n (omega arith))

@@ -4,16 +4,16 @@
 ghost use Rattle.std.specs.Prelude.{◌≡◌};
 ghost use Rattle.sheet.specs.Changes.{fresh_sheet};
 
-pub mod marks; // marks.rt: the hide marks
-pub mod places; // places.rt: the places of the inserted rows, surveyed
-pub mod removals; // removals.rt: rows taken out of the places
-pub mod shares; // shares.rt: what the desks hold together
-pub mod sound; // sound.rt: whether a sheet is sound
+mod marks; // marks.rt: the hide marks
+mod places; // places.rt: the places of the inserted rows
+mod removals; // removals.rt: rows taken out of the places
+mod shares; // shares.rt: what the desks hold together
+mod sound; // sound.rt: whether a sheet is sound
 
 // `rows` is the table's row count T. Desk k's marks are `WORDS` words: table row n is hidden where bit n % 64 of their word n / 64 is set.
 // The first `used` places hold the inserted rows, in order of insertion.
 #[repr(C)]
-#[derive(Clone, Copy)]
+#[derive(Clone, Copy, PartialEq, Eq)]
 pub struct Sheet {
     pub d: usize,
     pub rows: usize,
@@ -47,6 +47,7 @@ impl Sheet {
     pub const MARKS: usize = Sheet::DESKS * Sheet::WORDS;
 
     // The sheet of a class that begins: no marks, no rows.
+    #[tactic(auto, unfolding(crate::specs::Changes::fresh_sheet))]
     pub fn fresh(d: usize, rows: usize, desks: usize) -> Sheet
         ensures { result ≡ fresh_sheet d rows desks }
     {

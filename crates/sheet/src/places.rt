@@ -1,52 +1,53 @@
-// The places of the inserted rows, surveyed: whether they are as a sound sheet has them, and how many rows each desk holds.
-ghost use Rattle.std.specs.Prelude.{◌≡◌, ◌||◌, zero, ◌≤◌, ltb, replicate};
+// The places of the inserted rows: a row put in, and the places surveyed.
+ghost use Rattle.std.specs.Prelude.{◌≡◌, ◌||◌, ◌≤◌, ◌<◌, ltb};
 ghost use Rattle.sets.specs.Limits.{most_places, most_desks};
+ghost use Rattle.sets.specs.Rows.{bits};
 ghost use Rattle.sheet.specs.Upto.{all_to};
 ghost use Rattle.sheet.specs.Sheets.{empty, placed};
-ghost use Rattle.sheet.specs.Code.Surveys.{places_of, Surveyed};
+ghost use Rattle.sheet.specs.Changes.{adding};
+ghost use Rattle.sheet.specs.Code.Surveys.{Surveyed};
 
 use crate::Sheet;
+use sets::Row;
 
-// The places from `used` on have set 0 and owner 0.
-fn rest_empty(used: usize, sets: &[u64; Sheet::SETS], owners: &[usize; Sheet::PLACES]) -> bool
-    ensures { result ≡ all_to (λ i. ltb i used || empty (places_of 0 0 used sets.now owners.now) i) most_places }
-{
-    let mut next = used;
-    while next < Sheet::PLACES {
-        if owners[next] != 0 {
-            return false;
-        }
-        if !sets::row_at(sets, next).is_empty() {
-            return false;
-        }
-        next += 1;
+impl Sheet {
+    // The row becomes the desk's last.
+    #[tactic(auto, using(crate::proofs::PlaceRows::place_rows))]
+    pub fn put_in(&mut self, desk: usize, row: Row)
+        requires { self.old.used < most_places }
+        ensures { self.new ≡ adding self.old desk (bits row) }
+    {
+        sets::put_row(&mut self.sets, self.used, row);
+        self.owners[self.used] = desk;
+        self.used += 1;
     }
-    true
-}
 
-// Goes over the places once. Where they are right, counts[k], which comes in as 0, is how many rows desk k holds.
-pub fn go_over(
-    d: usize,
-    desks: usize,
-    used: usize,
-    sets: &[u64; Sheet::SETS],
-    owners: &[usize; Sheet::PLACES],
-    counts: &mut [usize],
-) -> bool
-    requires { (used ≤ most_places) × (desks ≤ most_desks) × (counts.old ≡ replicate most_desks zero) }
-    ensures { Surveyed placed (places_of d desks used sets.now owners.now) result counts.new }
-{
-    let mut next: usize = 0;
-    while next < used {
-        let owner = owners[next];
-        if desks <= owner {
-            return false;
+    // The places from `used` on have set 0 and owner 0.
+    #[tactic(auto, using(crate::proofs::PlaceRows::place_rows))]
+    fn rest_empty(&self) -> bool
+        ensures { result ≡ all_to (λ i. ltb i self.now.used || empty self.now i) most_places }
+    {
+        for place in self.used..Sheet::PLACES {
+            if self.owners[place] != 0 || !sets::row_at(&self.sets, place).is_empty() {
+                return false;
+            }
         }
-        if !sets::row_at(sets, next).within(d) {
-            return false;
-        }
-        counts[owner] = counts[owner] + 1;
-        next += 1;
+        true
     }
-    rest_empty(used, sets, owners)
+
+    // Where the places are right, how many rows each desk holds.
+    pub(crate) fn tally(&self) -> Option<[usize; Sheet::DESKS]>
+        requires { (self.now.used ≤ most_places) × (self.now.desks ≤ most_desks) }
+        ensures { Surveyed placed self.now result }
+    {
+        let mut counts = [0; Sheet::DESKS];
+        for place in 0..self.used {
+            let owner = self.owners[place];
+            if self.desks <= owner || !sets::row_at(&self.sets, place).within(self.d) {
+                return None;
+            }
+            counts[owner] += 1;
+        }
+        self.rest_empty().then_some(counts)
+    }
 }

@@ -1,59 +1,33 @@
 // Whether a sheet is sound, however damaged it may be: the calls that follow may then trust it.
-ghost use Rattle.std.specs.Prelude.{◌≡◌, [], zero, replicate};
-ghost use Rattle.sets.specs.Limits.{most_desks};
+ghost use Rattle.std.specs.Prelude.{◌≡◌};
 ghost use Rattle.sheet.specs.Sheets.{shaped, sound};
-ghost use Rattle.sheet.specs.Code.Surveys.{sheet_of, Surveyed};
+ghost use Rattle.sheet.specs.Code.Surveys.{Surveyed};
 
-use crate::{Sheet, marks, places, shares};
+use crate::Sheet;
 
-// The four numbers of a sheet are within their limits.
-fn shaped(d: usize, rows: usize, desks: usize, used: usize) -> bool
-    ensures { result ≡ shaped (sheet_of d rows desks used [] [] []) }
-{
-    if d < 1 {
-        return false;
+impl Sheet {
+    // The four numbers of the sheet are within their limits.
+    #[tactic(auto, unfolding(crate::specs::Sheets::shaped))]
+    fn shaped(&self) -> bool
+        ensures { result ≡ shaped self.now }
+    {
+        (1..=Sheet::VALUES).contains(&self.d)
+            && self.rows <= Sheet::ROWS
+            && (1..=Sheet::DESKS).contains(&self.desks)
+            && self.used <= Sheet::PLACES
     }
-    if Sheet::VALUES < d {
-        return false;
-    }
-    if Sheet::ROWS < rows {
-        return false;
-    }
-    if desks < 1 {
-        return false;
-    }
-    if Sheet::DESKS < desks {
-        return false;
-    }
-    used <= Sheet::PLACES
-}
 
-// Whether the sheet of these parts is sound. Where it is, counts[k], which comes in as 0, is how many rows desk k holds.
-pub fn check<'a>(
-    d: usize,
-    rows: usize,
-    desks: usize,
-    used: usize,
-    marks: &'a [u64; Sheet::MARKS],
-    sets: &'a [u64; Sheet::SETS],
-    owners: &'a [usize; Sheet::PLACES],
-    counts: &mut [usize],
-) -> bool
-    requires { counts.old ≡ replicate most_desks zero }
-    ensures { Surveyed sound (sheet_of d rows desks used marks.now sets.now owners.now)
-        result counts.new }
-{
-    if !shaped(d, rows, desks, used) {
-        return false;
+    // How many rows each desk holds, where the sheet is sound.
+    pub fn survey(&self) -> Option<[usize; Sheet::DESKS]>
+        ensures { Surveyed sound self.now result }
+    {
+        if !self.shaped() {
+            return None;
+        }
+        let counts = self.tally()?;
+        let right = self.none_over(&counts)
+            && self.used + self.owed(&counts) <= Sheet::PLACES
+            && self.marks_right();
+        right.then_some(counts)
     }
-    if !places::go_over(d, desks, used, sets, owners, counts) {
-        return false;
-    }
-    if !shares::none_over(desks, counts) {
-        return false;
-    }
-    if Sheet::PLACES < used + shares::owed(desks, counts) {
-        return false;
-    }
-    marks::marks_right(desks, rows, marks)
 }

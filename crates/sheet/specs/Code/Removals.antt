@@ -1,19 +1,18 @@
 -- What a pass that takes rows out leaves.
-use Rattle.std.specs.Prelude.{ℕ, ◌*◌, ◌≡◌, List, length, take}
+use Rattle.std.specs.Prelude.{ℕ, zero, ◌-◌, ◌*◌, ◌≡◌, ◌++◌, take, replicate}
 use Rattle.sets.specs.Limits.{most_places}
 use Rattle.sets.specs.Rows.{row_words, rows_of, in_words}
+use Rattle.sheet.specs.declared.Sheet.{Sheet}
 use Rattle.sheet.specs.Upto.{count_to, those}
-use Rattle.sheet.specs.Changes.{padded, stays}
+use Rattle.sheet.specs.Changes.{padded, placing, stays}
 
--- of the first n places, those that stay have closed up, `left` of them
-pub record ClosedUp (k from upto : ℕ) (sets owners : List ℕ) (n left : ℕ) (sets' owners' : List ℕ) : Type 0 where
-  pub count : left ≡ count_to (stays owners k from upto) n
-  pub rows : take (left * row_words) sets' ≡ in_words (those (stays owners k from upto) (rows_of sets) n)
-  pub desks : take left owners' ≡ those (stays owners k from upto) owners n
-  pub long : (length sets' ≡ most_places * row_words) × (length owners' ≡ most_places)
+-- of the used places, those that stay have closed up, `left` of them
+pub record ClosedUp (s : Sheet) (k from upto left : ℕ) (s' : Sheet) : Type 0 where
+  pub count : left ≡ count_to (stays s.owners k from upto) s.used
+  pub rows : take (left * row_words) s'.sets ≡ in_words (those (stays s.owners k from upto) (rows_of s.sets) s.used)
+  pub desks : take left s'.owners ≡ those (stays s.owners k from upto) s.owners s.used
+  pub rest : s' ≡ placing s s.used s'.sets s'.owners
 
--- and the places behind them are empty
-pub record TakenOut (k from upto : ℕ) (sets owners : List ℕ) (n left : ℕ) (sets' owners' : List ℕ) : Type 0 where
-  pub count : left ≡ count_to (stays owners k from upto) n
-  pub rows : sets' ≡ in_words (padded (those (stays owners k from upto) (rows_of sets) n))
-  pub desks : owners' ≡ padded (those (stays owners k from upto) owners n)
+-- the first `left` places are the used ones, and those behind them are empty
+abbrev pub emptied : Sheet → ℕ → Sheet
+emptied s left = placing s left (take (left * row_words) s.sets ++ replicate ((most_places - left) * row_words) zero) (padded (take left s.owners))

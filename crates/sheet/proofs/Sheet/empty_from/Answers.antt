@@ -1,0 +1,26 @@
+-- `Sheet::empty_from` meets its contract. Assumes nothing.
+use Prim.Native.Nat.{ℕ, zero, ◌-◌, ◌*◌}
+use mathlib.Core.Path.{◌≡◌, ap, ap₂, ◌∙◌}
+use mathlib.Core.List.{◌++◌}
+use native.Mathlib.Omega.{arith}
+use borrow.Author.Rules.{rules}
+use lib.ListN.{length, take, replicate}
+use Rattle.sets.specs.Limits.{most_places}
+use Rattle.sets.specs.Rows.{row_words}
+use Rattle.sheet.specs.Changes.{placing}
+use Rattle.sheet.proofs.Fills.{filled_rest}
+use Rattle.sheet.proofs.EmptyPlaces.{owners_emptied}
+use Rattle.sheet.proofs.Sheet.empty_from.Goals as goal
+
+pub returns : goal.returns
+returns c =
+    let s = c.args.self.now in
+    let left = c.args.left in
+    let sets_long : length s.sets ≡ most_places * row_words = search rules in
+    let owners_long : length s.owners ≡ most_places = search rules in
+    let few = c.requires in
+    let rest : most_places * row_words - left * row_words ≡ (most_places - left) * row_words = omega arith in
+    ap₂ (placing s left)
+    (filled_rest (left * row_words) (most_places * row_words - left * row_words) s.sets c.fill.new.self (c.fill.ensures.after (λ y e. e)) (omega arith)
+    ∙ ap (λ (n : ℕ). take (left * row_words) s.sets ++ replicate n zero) rest)
+    (filled_rest left (most_places - left) s.owners c.fill-2.new.self (c.fill-2.ensures.after (λ y e. e)) (omega arith) ∙ owners_emptied left s.owners (omega arith) owners_long)
