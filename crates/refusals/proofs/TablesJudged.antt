@@ -2,7 +2,7 @@
 use Prim.Native.Nat.{ℕ, zero, ◌≤◌}
 use mathlib.Core.Path.{◌≡◌, refl, sym}
 use mathlib.Core.Bool.{Bool, true, false, ◌||◌, false≢true}
-use mathlib.Core.List.{List}
+use mathlib.Core.List.{List, ◌++◌}
 use native.Mathlib.Omega.{arith}
 use lib.Dec.{eqb, ltb}
 use lib.ListN.{length}
@@ -13,7 +13,7 @@ use Rattle.sets.specs.Tables.{bad_row}
 use Rattle.refusals.specs.declared.Refusal.{Refusal}
 use Rattle.refusals.specs.Cases.{Case, found, decided}
 use Rattle.refusals.specs.TableCases.{table_cases}
-use Rattle.refusals.proofs.Outcomes.{NoneApplies, Gives, stood, refusing, not_ok, same_err}
+use Rattle.refusals.proofs.Outcomes.{NoneApplies, Gives, stood, refusing, stands_first, refuses_first, not_ok, same_err}
 
 -- ---- by the cases of any list
 
@@ -26,6 +26,14 @@ judged_right = stood Err (Ok tt) (not_ok tt)
 
 pub judged_refused : (cs : List Case) (r : Refusal) → judgement cs ≡ Err r → Gives cs r
 judged_refused = refusing Err (Ok tt) (not_ok tt) same_err
+
+-- where the first cases are judged alone: a refusal of theirs is given, and where none applies the later ones decide
+module _ {A : Type 0} (cs ds : List Case) (a : Result A Refusal) where
+  pub refused_first : (r : Refusal) → judgement cs ≡ Err r → decided Err (cs ++ ds) a ≡ Err r
+  refused_first r e = refuses_first Err cs ds r (judged_refused cs r e) a
+
+  pub passed_first : judgement cs ≡ Ok tt → decided Err (cs ++ ds) a ≡ decided Err ds a
+  passed_first e = stands_first Err cs ds (judged_right cs e) a
 
 -- ---- by the parts of a table
 

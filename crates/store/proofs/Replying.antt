@@ -1,14 +1,14 @@
 -- The refusals in their order, as the code meets them, and what is handed back with each. Assumes nothing.
 use Prim.Native.Nat.{ℕ, zero, ◌-◌, ◌<◌}
-use mathlib.Core.Path.{◌≡◌, refl, sym, ap, subst, ◌∙◌}
+use mathlib.Core.Path.{◌≡◌, refl, sym, ap, ◌∙◌}
 use mathlib.Core.Logic.{inl, inr}
-use mathlib.Core.Bool.{Bool, true, false, cond, not, ◌&&◌, ◌||◌, true≢false, false≢true}
-use mathlib.Core.List.{List, [], ◌∷◌, ◌++◌}
+use mathlib.Core.Bool.{Bool, true, false, cond, ◌&&◌, ◌||◌, false≢true}
+use mathlib.Core.List.{List, [], ◌∷◌}
 use native.Mathlib.Omega.{arith}
-use lib.Dec.{eqb, leb, ltb}
+use lib.Dec.{eqb, ltb}
 use lib.ListN.{length}
 use borrow.Author.Tests.{eqb-true, leb-false, not-false}
-use Rattle.std.specs.Prelude.{Result, Ok, Err}
+use Rattle.std.specs.Prelude.{Result, Ok, Err, is_ok}
 use Rattle.sets.proofs.Bools.{and_left, and_right}
 use Rattle.sheet.specs.declared.Sheet.{Sheet}
 use Rattle.sheet.specs.Sheets.{own, held, hides, sound}
@@ -20,13 +20,12 @@ use Rattle.store.specs.declared.Target.TheVariants.{Table, Own}
 use Rattle.store.specs.declared.Call.{Call}
 use Rattle.store.specs.declared.Call.TheVariants.{Do, Ask}
 use Rattle.store.specs.declared.Question.{Question}
-use Rattle.store.specs.declared.Change.{Change}
 use Rattle.store.specs.declared.Change.TheVariants.{Delete, Insert, Reset}
-use Rattle.refusals.specs.declared.Refusal.TheVariants.{Unsound}
+use Rattle.refusals.specs.declared.Refusal.TheVariants.{Unsound, BadDesks}
 use Rattle.store.specs.declared.Answer.{Answer}
 use Rattle.store.specs.declared.Reply.{Reply}
 use Rattle.store.specs.declared.Answer.TheVariants.{Done}
-use Rattle.refusals.specs.Cases.{Case, decided}
+use Rattle.refusals.specs.Cases.{Case, ◌gives◌, decided}
 use Rattle.store.specs.Answers.{accepted}
 use Rattle.store.specs.Desks.{serve, written, list_after}
 use Rattle.sets.specs.Limits.{most_rows, most_desks, most_places, promised}
@@ -34,8 +33,8 @@ use Rattle.refusals.specs.TableCases.{table_cases}
 use Rattle.theory.specs.Pairings.{at}
 use Rattle.store.specs.Calls.{begin_cases, desk_cases, sheet_cases, crowded, begun_answer, begun_sheet, begun, answered, changed, sheet_after, replied, told}
 use Rattle.store.specs.Code.Serving.{Trusted, Served, Possible, Responded, CarriedOut}
-use Rattle.refusals.proofs.Outcomes.{stands, refuses, stands_first, refuses_first}
-use Rattle.refusals.proofs.TablesJudged.{judgement, judged_right, judged_refused}
+use Rattle.refusals.proofs.Outcomes.{stands, refuses}
+use Rattle.refusals.proofs.TablesJudged.{judgement, judged_right, judged_refused, refused_first, passed_first}
 use Rattle.store.proofs.Judging.{Allowed, allowed, has_room}
 use Rattle.store.proofs.Trusting.{Limits, limits}
 
@@ -44,6 +43,13 @@ use Rattle.store.proofs.Trusting.{Limits, limits}
 module _ (d : ℕ) (table : List ℕ) (desks : ℕ) where
   abbrev cases : List Case
   cases = begin_cases d table desks
+
+  -- once 1 and 2 are out, 13 is judged
+  pub begin_judged : judgement (table_cases most_rows d table) ≡ Ok tt → (b : Bool) → (eqb desks zero || ltb most_desks desks) ≡ b
+      → judgement cases ≡ cond b (Err BadDesks) (Ok tt)
+  unfolding decided
+  begin_judged right b e =
+      passed_first (table_cases most_rows d table) (((eqb desks zero || ltb most_desks desks) gives BadDesks) ∷ []) (Ok tt) right ∙ (rw e refl)
 
   pub begun_refused : (r : Refusal) → judgement cases ≡ Err r → record { answer = Err r; sheet = fresh_sheet zero zero zero } ≡ begun d table desks
   unfolding begun_answer begun_sheet accepted
@@ -58,6 +64,12 @@ module _ (d : ℕ) (table : List ℕ) (desks : ℕ) where
 -- what the caller has once the call is over
 abbrev pub Outcome : ℕ → List ℕ → Sheet → ℕ → Call → List ℕ → Reply → List ℕ → Type 0
 Outcome d table s k c old r list = (r ≡ replied d table s k c (length old)) × (list ≡ (told d table s k c old).list)
+
+-- what is `Ok` is accepted
+pub ok_accepted : {A : Type 0} (r : Result A Refusal) → is_ok r ≡ accepted r
+unfolding accepted
+ok_accepted (Ok a) = refl
+ok_accepted (Err r) = refl
 
 silent_refusal : (front list : List ℕ) (a : Result Answer Refusal) → accepted a ≡ false → list_after front a list ≡ list
 unfolding list_after
@@ -80,14 +92,12 @@ module _ (d : ℕ) (table : List ℕ) (s : Sheet) (k : ℕ) (c : Call) (old : Li
   -- refusals 1 and 2
   pub table_refused : (r : Refusal) → judgement (table_cases most_rows d table) ≡ Err r → Responded d table s k c old (Err r) old
   unfolding answered
-  table_refused r e =
-      let cases = table_cases most_rows d table in
-      refused r (refuses_first Err cases (sheet_cases d table s k) r (judged_refused cases r e) here)
+  table_refused r e = refused r (refused_first (table_cases most_rows d table) (sheet_cases d table s k) here r e)
 
   module _ (right : judgement (table_cases most_rows d table) ≡ Ok tt) where
     on : answered d table s k c (length old) ≡ decided Err (sheet_cases d table s k) here
     unfolding answered
-    on = let cases = table_cases most_rows d table in stands_first Err cases (sheet_cases d table s k) (judged_right cases right) here
+    on = passed_first (table_cases most_rows d table) (sheet_cases d table s k) here right
 
     -- refusal 3
     pub sheet_refused : sound s ≡ false → Responded d table s k c old (Err Unsound) old
@@ -95,23 +105,23 @@ module _ (d : ℕ) (table : List ℕ) (s : Sheet) (k : ℕ) (c : Call) (old : Li
     sheet_refused e = refused Unsound (on ∙ (rw e refl))
 
     module _ (whole : sound s ≡ true) where
-      abbrev cases : List Case
-      cases = desk_cases d (length table) s.d s.rows s.desks k
+      abbrev tried : List Case
+      tried = desk_cases d (length table) s.d s.rows s.desks k
 
-      on_desk : answered d table s k c (length old) ≡ decided Err cases here
+      on_desk : answered d table s k c (length old) ≡ decided Err tried here
       unfolding sheet_cases decided
       on_desk = on ∙ (rw whole refl)
 
       -- refusals 4 and 5
-      pub desk_refused : (r : Refusal) → judgement cases ≡ Err r → Responded d table s k c old (Err r) old
-      desk_refused r e = refused r (on_desk ∙ refuses Err cases r (judged_refused cases r e) here)
+      pub desk_refused : (r : Refusal) → judgement tried ≡ Err r → Responded d table s k c old (Err r) old
+      desk_refused r e = refused r (on_desk ∙ refuses Err tried r (judged_refused tried r e) here)
 
       -- refusals 6 to 12, and the answers
-      call_served : judgement cases ≡ Ok tt → (a : Result Answer Refusal) (list : List ℕ) → Served d table s k c old a list
+      call_served : judgement tried ≡ Ok tt → (a : Result Answer Refusal) (list : List ℕ) → Served d table s k c old a list
           → (accepted a ≡ true → Possible s k c) → Responded d table s k c old a list
       call_served known a list served can =
           let is : answered d table s k c (length old) ≡ a
-          = on_desk ∙ stands Err cases (judged_right cases known) here ∙ sym served.answer_is in
+          = on_desk ∙ stands Err tried (judged_right tried known) here ∙ sym served.answer_is in
           record { answer_is = sym is; list_is = rw is served.list_is; room = can }
 
   -- ---- and the sheet
@@ -128,10 +138,14 @@ module _ (d : ℕ) (table : List ℕ) (s : Sheet) (k : ℕ) (c : Call) (old : Li
     carried_accepted t after e = let says : accepted (answered d table s k c (length old)) ≡ true = ap accepted (sym R.answer_is) ∙ t in
         record { answer_is = R.answer_is; sheet_is = rw says e; list_is = R.list_is }
 
-    -- and so does a question
-    pub carried_question : accepted a ≡ true → (q : Question) → c ≡ Ask q → CarriedOut d table s k c old a s list
+    -- and so does a question, whatever it is answered
+    pub carried_question : (q : Question) → c ≡ Ask q → CarriedOut d table s k c old a s list
     unfolding changed
-    carried_question t q e = carried_accepted t s (rw e refl)
+    carried_question q e = go (accepted a) refl
+      where
+        go : (b : Bool) → accepted a ≡ b → CarriedOut d table s k c old a s list
+        go true t = carried_accepted t s (rw e refl)
+        go false n = carried_refused n
 
 -- ---- once the desk is known
 

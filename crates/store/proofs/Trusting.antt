@@ -4,7 +4,6 @@ use mathlib.Core.Path.{◌≡◌, sym, ap, ◌∙◌}
 use mathlib.Core.List.{List}
 use native.Mathlib.Omega.{arith}
 use lib.ListN.{length}
-use Rattle.std.specs.Prelude.{Ok}
 use Rattle.sets.specs.Rows.{rows_of}
 use Rattle.sets.specs.Limits.{most_desks, most_held, most_places, most_rows, most_values, promised}
 use Rattle.theory.specs.Pairings.{at}
@@ -16,7 +15,6 @@ use Rattle.sheet.specs.Sheets.{own, owns, held, hides, owed}
 use Rattle.sheet.proofs.UptoLaws.{sum_ext}
 use Rattle.sheet.proofs.OwnAfter.{length-own}
 use Rattle.sheet.proofs.SoundParts.{sound_parts}
-use Rattle.store.specs.declared.Answer.TheVariants.{Done}
 use Rattle.store.specs.Desks.{view}
 use Rattle.refusals.specs.TableCases.{table_cases}
 use Rattle.refusals.proofs.TablesJudged.{TableRight, right_parts, judged_right}

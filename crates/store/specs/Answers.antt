@@ -1,6 +1,6 @@
 -- The answers by the request's numbers: 'Where an answer is an enum, a definition gives this paper's number and values for each case of the enum.'
 -- (`number_of` and `row_of` stand in `refusals`.)
-use Rattle.std.specs.Prelude.{ℕ, zero, Bool, true, false, List, [], ◌∷◌, Result, Ok, Err}
+use Rattle.std.specs.Prelude.{ℕ, Bool, true, false, List, [], ◌∷◌, Result, Ok, Err}
 use Rattle.sets.specs.Rows.{bits}
 use Rattle.refusals.specs.Refusals.{row}
 use Rattle.refusals.specs.declared.Refusal.{Refusal}

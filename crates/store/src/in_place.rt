@@ -57,7 +57,10 @@ pub fn carry_out(
     ensures { CarriedOut d (rows_of table.now) sheet.old desk call list.old result sheet.new list.new }
 {
     let answer = respond(table, d, sheet, desk, call, list);
-    if let (Ok(_), Call::Do(change)) = (answer, call) {
+    let Call::Do(change) = call else {
+        return answer;
+    };
+    if answer.is_ok() {
         make(sheet, desk, change);
     }
     answer

@@ -11,13 +11,12 @@ use Rattle.store.specs.declared.Question.{Question}
 use Rattle.store.specs.declared.Change.{Change}
 use Rattle.store.specs.declared.Change.TheVariants.{Delete, Insert, Reset}
 use Rattle.store.specs.declared.Answer.{Answer}
-use Rattle.store.specs.declared.Answer.TheVariants.{Done}
 use Rattle.refusals.specs.Cases.{decided}
 use Rattle.store.specs.Answers.{accepted}
 use Rattle.store.specs.Desks.{question_cases, answer_to, written_for, change_cases, serve, written, list_after}
 use Rattle.sets.specs.Limits.{most_rows, most_desks, most_places, most_held}
 use Rattle.refusals.specs.TableCases.{table_cases}
-use Rattle.store.specs.Calls.{crowded, answered, changed, sheet_after, told}
+use Rattle.store.specs.Calls.{crowded, answered, sheet_after, told}
 
 -- table, sheet and desk are right, and counts has how many rows each desk holds
 pub record Trusted (d : ℕ) (table : List ℕ) (s : Sheet) (counts : List ℕ) (k : ℕ) : Type 0 where
