@@ -8,15 +8,15 @@ use contract.Lifetimes.{Lfts}
 use denote.Triple.Entry.{Args}
 use denote.Triple.Clauses.{AtExit}
 use borrow.Fn.Kinds.{Dens, ended_of}
+use Rattle.std.specs.Prelude.{Option, Some, None}
 use Rattle.sheet.specs.declared.Sheet.{Sheet}
 use Rattle.sets.specs.Rows.{rows_of}
+use Rattle.store.specs.declared.Call.{Call}
 use Rattle.store.specs.Calls.{begun_sheet, sheet_after, told}
 use Rattle.store.specs.Promise.{Turn, Store, sheet_on, class_store}
 use Rattle.store.proofs.Runs.{Run, after, saying, run_says}
 use Rattle.host.specs.declared.spoken.Plain.{Plain}
 use Rattle.host.specs.declared.spoken.Handed.{Handed}
-use Rattle.host.specs.declared.spoken.Asked.{Asked}
-use Rattle.host.specs.declared.spoken.Asked.TheVariants.{One, Nothing}
 use Rattle.host.specs.Spoken.{asked_by, plain_of, no_call, handed_by, list_of}
 use Rattle.host.proofs.Determined.{Alters}
 use Rattle.host.proofs.foliokettle_begin.Kinds as begin-kinds
@@ -39,19 +39,19 @@ pub record Heard : Type 0 where
 -- ---- what a store's turns are to a host
 
 -- the turn of a call, put before the others; what is no call is no turn
-abbrev turn_by : Asked → Ask → List Turn → List Turn
-turn_by (One c) a ts = record { desk = a.desk; call = c; list = a.list } ∷ ts
-turn_by Nothing a ts = ts
+abbrev turn_by : Option Call → Ask → List Turn → List Turn
+turn_by (Some c) a ts = record { desk = a.desk; call = c; list = a.list } ∷ ts
+turn_by None a ts = ts
 
 unfoldable pub turns_of : List Ask → List Turn
 turns_of [] = []
 turns_of (a ∷ past) = turn_by (asked_by a.kind a.n) a (turns_of past)
 
 -- an answer's numbers and the list; what is no call is told so, and its list stays
-abbrev heard_by : Store → List Turn → Asked → Ask → Heard
-heard_by tell ts (One c) a =
+abbrev heard_by : Store → List Turn → Option Call → Ask → Heard
+heard_by tell ts (Some c) a =
     let t : Turn = record { desk = a.desk; call = c; list = a.list } in record { told = plain_of (tell ts t).answer; list = (tell ts t).list }
-heard_by tell ts Nothing a = record { told = no_call; list = a.list }
+heard_by tell ts None a = record { told = no_call; list = a.list }
 
 unfoldable pub hearings : Store → List Ask → List Heard
 hearings tell [] = []
@@ -141,22 +141,22 @@ module _ (d : ℕ) (table : List ℕ) (desks : ℕ) where
   after_on [] = refl
   after_on (a ∷ past) = go (asked_by a.kind a.n) (after_on past)
     where
-      go : (asked : Asked) {s : Sheet} → s ≡ sheet_on d table desks (turns_of past)
+      go : (asked : Option Call) {s : Sheet} → s ≡ sheet_on d table desks (turns_of past)
           → (handed_by asked d table s a.desk (length a.list)).sheet ≡ sheet_on d table desks (turn_by asked a (turns_of past))
-      go (One c) e = ap (λ (s : Sheet). sheet_after d table s a.desk c (length a.list)) e
-      go Nothing e = e
+      go (Some c) e = ap (λ (s : Sheet). sheet_after d table s a.desk c (length a.list)) e
+      go None e = e
 
   saying_on : (past : List Ask) → saying (begun_sheet d table desks) tells_on leaves_on past ≡ hearings (class_store d table desks) past
   unfolding saying hearings class_store
   saying_on [] = refl
   saying_on (a ∷ past) = λ i. go (asked_by a.kind a.n) (after_on past) i ∷ saying_on past i
     where
-      go : (asked : Asked) {s : Sheet} → s ≡ sheet_on d table desks (turns_of past)
+      go : (asked : Option Call) {s : Sheet} → s ≡ sheet_on d table desks (turns_of past)
           → record { told = (handed_by asked d table s a.desk (length a.list)).told; list = list_of asked d table s a.desk a.list }
           ≡ heard_by (class_store d table desks) (turns_of past) asked a
-      go (One c) e =
+      go (Some c) e =
           λ i. let o = told d table (e i) a.desk c a.list in record { told = plain_of o.answer; list = o.list }
-      go Nothing e = refl
+      go None e = refl
 
   pub door_hears : {door : Sheet → Ask → Heard → Sheet → Type 0}
       → ((s : Sheet) (a : Ask) (o : Heard) (s' : Sheet) → door s a o s' → (o ≡ tells_on s a) × (s' ≡ leaves_on s a))

@@ -7,7 +7,7 @@ ghost use Rattle.distinct.specs.Asked.{ask_answer, listed};
 ghost use Rattle.store.specs.Calls.{begun};
 ghost use Rattle.files.specs.Reading.{read_answer, filled};
 ghost use Rattle.files.specs.Writing.{write_answer, buffer_after};
-ghost use Rattle.host.specs.Numbers.{plain_kept, plain_read, plain_saved};
+ghost use Rattle.host.specs.Numbers.{plain_number, plain_read};
 ghost use Rattle.host.specs.Spoken.{asked_by, handed_by, handed, list_of};
 
 use host::{Handed, Plain};
@@ -16,7 +16,7 @@ use sheet::Sheet;
 // DISTINCT over a view that belongs to no desk. Answers how many positions stand at the front of the list, or a refusal and its row.
 #[unsafe(no_mangle)]
 pub extern "C" fn foliokettle_distinct(d: usize, view: &[u64], list: &mut [usize]) -> Plain
-    ensures { (result ≡ plain_kept (ask_answer d (rows_of view.now) (length list.old)))
+    ensures { (result ≡ plain_number (ask_answer d (rows_of view.now) (length list.old)))
         × (list.new ≡ listed d (rows_of view.now) list.old
         (ask_answer d (rows_of view.now) (length list.old))) }
 {
@@ -80,7 +80,7 @@ pub extern "C" fn foliokettle_read(file: &[u8], rows: &mut [u64]) -> Plain
 // A table as a lesson file into a lent buffer. Answers the file's length, or a refusal and its row.
 #[unsafe(no_mangle)]
 pub extern "C" fn foliokettle_write(d: usize, table: &[u64], buffer: &mut [u8]) -> Plain
-    ensures { (result ≡ plain_saved (write_answer d (rows_of table.now) (length buffer.old)))
+    ensures { (result ≡ plain_number (write_answer d (rows_of table.now) (length buffer.old)))
         × (buffer.new ≡ buffer_after d (rows_of table.now) buffer.old
         (write_answer d (rows_of table.now) (length buffer.old))) }
 {

@@ -1,4 +1,3 @@
--- `Determined`: the contract leaves no choice. `Passing`: what the walks of `alter` and `altered` have in common.
+-- `Determined`: the contract leaves no choice. `PlayedTells`: a class server's runs tell what the promise is about.
 pub mod Determined
 pub mod PlayedTells
-pub mod Passing

@@ -8,6 +8,8 @@ use denote.Triple.Entry.{Args}
 use denote.Triple.Clauses.{AtExit}
 use Rattle.sheet.specs.declared.Sheet.{Sheet}
 use Rattle.sets.specs.Rows.{rows_of}
+use Rattle.std.specs.Prelude.{Result}
+use Rattle.refusals.specs.declared.Refusal.{Refusal}
 use Rattle.store.specs.declared.Answer.{Answer}
 use Rattle.store.specs.Desks.{Told}
 use Rattle.store.specs.Promise.{Turn, sheet_on, class_store}
@@ -21,7 +23,7 @@ module _ (d : ℕ) (table : List ℕ) (desks : ℕ) where
   pub record Altered (s : Sheet) (t : Turn) (o : Told) (s' : Sheet) : Type 0 where
     pub κs : Lfts 3
     pub args : Args alter.signature κs
-    pub answer : Answer
+    pub answer : Result Answer Refusal
     pub exit : AtExit alter.ended κs
     pub admitted : Alters κs args answer exit
     pub lends : (rows_of args.1.0.now ≡ table) × (args.1.1.0 ≡ d) × (args.0.now ≡ s)

@@ -5,10 +5,11 @@ ghost use Rattle.std.specs.Prelude.{◌≡◌, length};
 ghost use Rattle.sets.specs.Rows.{rows_of};
 ghost use Rattle.store.specs.Calls.{answered, sheet_after, replied, told};
 
+use refusals::Refusal;
 use sheet::Sheet;
 use store::{Answer, Call, Reply};
 
-// The sheet becomes what `desk_call` hands back, and the answer is its answer.
+// The sheet becomes what `desk_call` hands back, and the answer is its answer. (The request names this form: by the call by value.)
 pub fn alter(
     sheet: &mut Sheet,
     table: &[u64],
@@ -16,20 +17,19 @@ pub fn alter(
     desk: usize,
     call: Call,
     list: &mut [usize],
-) -> Answer
+) -> Result<Answer, Refusal>
     ensures { (result ≡ answered d (rows_of table.now) sheet.old desk call (length list.old))
         × (sheet.new ≡ sheet_after d (rows_of table.now) sheet.old desk call (length list.old))
         × (list.new ≡ (told d (rows_of table.now) sheet.old desk call list.old).list) }
 {
-    let before = *sheet;
-    let reply = store::desk_call(table, d, before, desk, call, list);
+    let reply = store::desk_call(table, d, *sheet, desk, call, list);
     *sheet = reply.sheet;
     reply.answer
 }
 
 // The same for callers that pass the sheet on by value: a local one is altered in place.
 pub fn altered(
-    sheet: Sheet,
+    mut sheet: Sheet,
     table: &[u64],
     d: usize,
     desk: usize,
@@ -39,10 +39,6 @@ pub fn altered(
     ensures { (result ≡ replied d (rows_of table.now) sheet desk call (length list.old))
         × (list.new ≡ (told d (rows_of table.now) sheet desk call list.old).list) }
 {
-    let mut held = sheet;
-    let answer = alter(&mut held, table, d, desk, call, list);
-    Reply {
-        answer,
-        sheet: held,
-    }
+    let answer = alter(&mut sheet, table, d, desk, call, list);
+    Reply { answer, sheet }
 }
