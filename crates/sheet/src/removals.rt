@@ -20,7 +20,7 @@ impl Sheet {
             let owner = self.owners[next];
             let set = sets::row_at(&self.sets, next);
             let own = owner == desk;
-            let goes = own && (from..upto).contains(&seen);
+            let goes = own & (from..upto).contains(&seen);
             sets::put_row(&mut self.sets, left, set);
             self.owners[left] = owner;
             seen += usize::from(own);
