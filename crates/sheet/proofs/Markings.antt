@@ -48,9 +48,6 @@ abbrev allowed : Sheet → ℕ → ℕ → Bool
 allowed s k n = not (hides s.marks k n) || (ltb k s.desks && ltb n s.rows)
 
 module _ (s : Sheet) where
-  pub marked_start : Marked s zero
-  marked_start = record { before = λ w h. absurd (omega arith) }
-
   -- a word with a row that it may not have
   pub marked_wrong : (w r : ℕ) → w < all_marks → at s.marks w < 2 ^ word_bits → MayHide s.desks s.rows w r → subset (at s.marks w) r ≡ false
       → false ≡ marked_right s
