@@ -38,6 +38,7 @@ impl Sheet {
     }
 
     // The rows that a word of marks may have: those below T, where its desk exists.
+    #[tactic(auto, using(crate::proofs::Markings::may_none, crate::proofs::Markings::may_first))]
     fn may_hide(&self, word: usize) -> u64
         ensures { MayHide self.now.desks self.now.rows word result }
     {
@@ -49,6 +50,7 @@ impl Sheet {
     }
 
     // Marks stand only for existing desks and rows below T.
+    #[tactic(auto, using(crate::proofs::Markings::marked_wrong, crate::proofs::Markings::marked_more, crate::proofs::Markings::marked_all))]
     pub(crate) fn marks_right(&self) -> bool
         ensures { result ≡ marked_right self.now }
     {

@@ -40,6 +40,7 @@ impl Sheet {
     }
 
     // The desk's rows number `from` to `upto` - 1 are taken out.
+    #[tactic(auto, using(crate::proofs::EmptyPlaces::closed_few, crate::proofs::EmptyPlaces::taken_out))]
     pub fn take_out(&mut self, desk: usize, from: usize, upto: usize)
         requires { self.old.used ≤ most_places }
         ensures { self.new ≡ without self.old desk from upto }

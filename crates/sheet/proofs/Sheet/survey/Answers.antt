@@ -9,27 +9,6 @@ use Rattle.sheet.proofs.Surveying.{surveyed}
 use Rattle.sheet.proofs.Sheet.survey.Goals as goal
 use Rattle.sheet.proofs.Sheet.survey.Goals.{then-none_over, else-none_over, then-self-owed-le-PLACES, else-self-owed-le-PLACES}
 
-pub returns-then-not-shaped : goal.returns-then-not-shaped
-returns-then-not-shaped c = wrong_shape _ (sym c.shaped.ensures ∙ c.if-not-shaped.true)
-
-pub tally-requires : goal.tally-requires
-tally-requires c = shape_few _ (sym c.shaped.ensures ∙ c.if-not-shaped.false)
-
-pub returns-in_err-counts : goal.returns-in_err-counts
-returns-in_err-counts c =
-    subst (Surveyed sound c.args.self.now) (sym c.from_residual.ensures) (wrong_places _ (sym c.shaped.ensures ∙ c.if-not-shaped.false) c.in_err-counts.ensures)
-
-pub none_over-requires : goal.none_over-requires
-none_over-requires c = (shape_few _ (sym c.shaped.ensures ∙ c.if-not-shaped.false)).1
-
-pub owed-requires : goal.owed-requires
-owed-requires c = (shape_few _ (sym c.shaped.ensures ∙ c.if-not-shaped.false)).1
-
-pub overflow_add-self : goal.overflow_add-self
-overflow_add-self c =
-    let few = shape_few _ (sym c.shaped.ensures ∙ c.if-not-shaped.false) in
-    search (rules, few.0, c.owed.ensures.upper_bound)
-
 pub returns : goal.returns
 returns c =
     let s = c.args.self.now in
