@@ -51,3 +51,6 @@ module _ (s : Sheet) where
         let owes =
         sum_ext (λ k. promised - at counts k) (λ k. promised - held s k) s.desks (λ k h. ap (λ (n : ℕ). promised - n) (c.each k (omega arith))) in
         rw (shape, places, over, owes) refl
+
+-- what `Sheet::survey` cites
+pub ruleset testing = (wrong_shape, shape_few, wrong_places)

@@ -108,3 +108,6 @@ module _ {s : Sheet} {next : ℕ} (m : Marked s next) where
           let ok = m.before (k * mark_words + n / word_bits) (omega arith) (n % word_bits) t in
           or_right (not (hides s.marks k n)) (ltb k s.desks && ltb n s.rows)
           (and_both (ltb k s.desks) (ltb n s.rows) (lt-ltb k s.desks (omega (arith, ok.0))) (lt-ltb n s.rows (omega (arith, ok.1))))
+
+-- what `Sheet::marks_right` cites
+pub ruleset marked = (marked_wrong, marked_more, marked_all)

@@ -1,27 +1,25 @@
 -- What a pass over the places has learnt so far. Assumes nothing.
 use Prim.Native.Nat.{ℕ, zero, suc, ◌≤◌, ◌<◌}
 use mathlib.Core.Path.{◌≡◌, refl, sym, ap, ◌∙◌}
-use mathlib.Core.Logic.{◌≢◌, inl, inr}
+use mathlib.Core.Logic.{◌≢◌}
 use mathlib.Core.Bool.{Bool, true, false, ◌&&◌, ◌||◌}
 use mathlib.Core.List.{List}
-use native.Mathlib.Nat.{not-suc-le-zero}
 use native.Mathlib.Decide.{ℕ_discrete}
 use native.Mathlib.Omega.{arith}
 use Rattle.std.specs.Bool.{then_some}
-use lib.Dec.{eqb, ltb}
+use lib.Dec.{ltb}
 use lib.ListN.{length, set, replicate, length-set, length-replicate, get_or-replicate}
 use borrow.Author.Tests.{lt-ltb, le-ltb, eq-eqb, ne_eqb}
 use Rattle.sets.proofs.Bools.{and_both, or_left, or_right}
 use Rattle.theory.specs.Pairings.{at}
 use Rattle.sets.specs.Limits.{most_desks, most_places}
-use Rattle.sets.specs.Sets.{within}
-use Rattle.sets.specs.Rows.{rows_of}
 use Rattle.theory.proofs.Places.{at_same, at_other}
 use Rattle.sheet.specs.declared.Sheet.{Sheet}
 use Rattle.sheet.specs.Upto.{count_to, all_to}
 use Rattle.sheet.specs.Sheets.{owns, owned, empty, placed}
 use Rattle.sheet.specs.Code.Surveys.{Counted, Surveyed}
-use Rattle.sheet.proofs.UptoLaws.{all_fails, all_intro, top_or-below, count_yes, count_no, count-le}
+use Rattle.sheet.proofs.PlaceRows.{place_rows}
+use Rattle.sheet.proofs.UptoLaws.{all_fails, all_intro, count_yes, count_no, count-le}
 
 -- ---- the places that are not used
 
@@ -98,3 +96,6 @@ module _ {s : Sheet} {counts : List ℕ} {next : ℕ} (t : Tallied s counts next
 
   pub tally_counted : next ≡ s.used → Counted s counts
   tally_counted e = record { long = t.long; each = λ k l. t.counted k l ∙ ap (count_to (owns s.owners k)) e }
+
+-- what `Sheet::tally` cites
+pub ruleset tallying = (place_rows, tally_small, tally_all, tally_counted, surveyed)

@@ -50,7 +50,7 @@ impl Sheet {
     }
 
     // Marks stand only for existing desks and rows below T.
-    #[tactic(auto, using(crate::proofs::Markings::marked_wrong, crate::proofs::Markings::marked_more, crate::proofs::Markings::marked_all))]
+    #[tactic(auto, using(crate::proofs::Markings::marked))]
     pub(crate) fn marks_right(&self) -> bool
         ensures { result ≡ marked_right self.now }
     {

