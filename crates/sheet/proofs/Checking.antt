@@ -40,7 +40,8 @@ module _ (s : Sheet) where
     -- and its places are, so the rest is what the counts say, and the marks
     pub rest_says : placed s ≡ true → (counts : List ℕ) → Counted s counts
         → sound s
-        ≡ (list_all (λ n. leb n most_held) (take s.desks counts) && leb (s.used + sum_to (λ k. promised - at counts k) s.desks) most_places && marked_right s)
+        ≡ (list_all (λ n. leb n most_held) (take s.desks counts) && leb (s.used + sum_to (λ k. promised - at counts k) s.desks) most_places
+        && marked_right s)
     unfolding sound shared
     rest_says places counts c =
         let few : s.desks ≤ most_desks = shape_few.1 in

@@ -48,7 +48,8 @@ pub record Tallied (s : Sheet) (counts : List ℕ) (next : ℕ) : Type 0 where
   pub counted : (k : ℕ) → k < most_desks → at counts k ≡ count_to (owns s.owners k) next
 
 -- what is learnt where all of a survey is known
-pub surveyed : (right : Sheet → Bool) (s : Sheet) (counts : List ℕ) (b : Bool) → right s ≡ b → Counted s counts → Surveyed right s (then_some b counts)
+pub surveyed : (right : Sheet → Bool) (s : Sheet) (counts : List ℕ) (b : Bool) → right s ≡ b → Counted s counts
+    → Surveyed right s (then_some b counts)
 surveyed right s counts true e c = (e, c)
 surveyed right s counts false e c = e
 

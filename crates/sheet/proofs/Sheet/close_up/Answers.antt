@@ -15,7 +15,12 @@ use Rattle.sheet.proofs.Sheet.close_up.Goals as goal
 pub loop-next-init : goal.loop-next-init
 loop-next-init c =
     let a = c.args in
-    record { seen_few = omega arith; left_few = omega arith; passed = passing_start a.desk a.from a.upto a.self.now.sets a.self.now.owners; rest = refl }
+    record {
+      seen_few = omega arith;
+      left_few = omega arith;
+      passed = passing_start a.desk a.from a.upto a.self.now.sets a.self.now.owners;
+      rest = refl;
+    }
 
 pub loop-next-preserved : goal.loop-next-preserved
 loop-next-preserved c =

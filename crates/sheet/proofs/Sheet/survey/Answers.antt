@@ -6,7 +6,6 @@ use Rattle.sheet.specs.Code.Surveys.{Surveyed}
 use Rattle.sheet.proofs.Checking.{rest_says}
 use Rattle.sheet.proofs.Surveying.{surveyed}
 use Rattle.sheet.proofs.Sheet.survey.Goals as goal
-use Rattle.sheet.proofs.Sheet.survey.Goals.{then-none_over, else-none_over, then-self-owed-le-PLACES, else-self-owed-le-PLACES}
 
 pub returns : goal.returns
 returns c =
