@@ -1,11 +1,19 @@
 // The hide marks, in words: desk k has the `Sheet::WORDS` words from that many times k on, and a word is a set of table rows, one for each bit.
 ghost use Rattle.std.specs.Prelude.{◌≡◌, ◌<◌};
 ghost use Rattle.sets.specs.Limits.{most_rows, most_desks};
-ghost use Rattle.sheet.specs.Sheets.{hides, marked_right};
+ghost use Rattle.sheet.specs.Sheets.{word, hides, marked_right};
 ghost use Rattle.sheet.specs.Changes.{hiding, showing};
 ghost use Rattle.sheet.specs.Code.Surveys.{MayHide};
 
 use crate::Sheet;
+
+// Which word of marks has table row n of the desk.
+fn word_of(desk: usize, n: usize) -> usize
+    requires { (desk < most_desks) × (n < most_rows) }
+    ensures { result ≡ word desk n }
+{
+    desk * Sheet::WORDS + n / sets::word::BITS
+}
 
 impl Sheet {
     // The desk hides table row n.
@@ -14,8 +22,7 @@ impl Sheet {
         requires { (desk < most_desks) × (n < most_rows) }
         ensures { result ≡ hides self.now.marks desk n }
     {
-        let word = self.marks[desk * Sheet::WORDS + n / sets::word::BITS];
-        sets::word::has(word, n % sets::word::BITS)
+        sets::word::has(self.marks[word_of(desk, n)], n % sets::word::BITS)
     }
 
     // Table row n is hidden at the desk.
@@ -24,7 +31,7 @@ impl Sheet {
         requires { (desk < most_desks) × (n < most_rows) }
         ensures { self.new ≡ hiding self.old desk n }
     {
-        let at = desk * Sheet::WORDS + n / sets::word::BITS;
+        let at = word_of(desk, n);
         self.marks[at] = sets::word::with(self.marks[at], n % sets::word::BITS);
     }
 
