@@ -127,7 +127,8 @@ module _ {k from upto : ℕ} {sets owners : List ℕ} {seen left next : ℕ} {se
           rows = rw (left_more, put)
               (words_more (stays owners k from upto) (rows_of sets) next left row (same ∙ kept_at P.rows_kept) sets' (omega arith) P.rows);
           desks = rw left_more
-              (front_more (stays owners k from upto) owners next left (at owners' next) (kept_at P.desks_kept) owners' (omega (arith, P.desks_kept.long)) P.desks);
+              (front_more (stays owners k from upto) owners next left (at owners' next) (kept_at P.desks_kept) owners'
+              (omega (arith, P.desks_kept.long)) P.desks);
           rows_kept = rw rows'' (kept_more P.rows_kept left row passing_few.1 (omega (arith, place_rows sets s)));
           desks_kept = kept_more P.desks_kept left (at owners' next) passing_few.1 (omega arith);
           long = ap length put ∙ put_length sets' left row ∙ P.long;

@@ -14,7 +14,7 @@ use Rattle.sheet.specs.Changes.{padded, placing, stays, without}
 use Rattle.sheet.specs.Code.Removals.{ClosedUp, emptied}
 use Rattle.sheet.proofs.UptoLaws.{count-le, length-those}
 
--- owners
+-- the owners that stay, as 512 places hold them
 pub owners_emptied : (left : ℕ) (old : List ℕ) → left ≤ length old → length old ≡ most_places
     → take left old ++ replicate (most_places - left) zero ≡ padded (take left old)
 unfolding padded

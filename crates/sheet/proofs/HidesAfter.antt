@@ -52,7 +52,8 @@ module _ (marks : List ℕ) (k n : ℕ) (long : length marks ≡ all_marks) (hk 
     | yes e ↦
         rw e
         (ap (λ (x : ℕ). has x (m % word_bits)) there ∙ with_other (at marks (word k n)) (n % word_bits) (m % word_bits) (apart j m hm ne e))
-    | no away ↦ ap (λ (x : ℕ). has x (m % word_bits)) (at_other marks (word k n) (bit_or (at marks (word k n)) (single (n % word_bits))) (word j m) away)
+    | no away ↦
+        ap (λ (x : ℕ). has x (m % word_bits)) (at_other marks (word k n) (bit_or (at marks (word k n)) (single (n % word_bits))) (word j m) away)
   ]
 
 -- ---- words are wiped
@@ -87,7 +88,8 @@ pub wiped-replicate : (marks : List ℕ) (first n : ℕ) → first + n ≤ lengt
 unfolding wiped
 wiped-replicate marks first zero h = paste-zero marks first []
 wiped-replicate marks first (suc n) h =
-    ap (λ (l : List ℕ). set l (first + n) zero) (wiped-replicate marks first n (omega arith)) ∙ simp add-one at (fill_from_more marks first n zero (omega arith))
+    ap (λ (l : List ℕ). set l (first + n) zero) (wiped-replicate marks first n (omega arith))
+    ∙ simp add-one at (fill_from_more marks first n zero (omega arith))
 
 -- ---- a desk's marks are taken off
 

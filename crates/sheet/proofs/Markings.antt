@@ -48,9 +48,6 @@ abbrev allowed : Sheet → ℕ → ℕ → Bool
 allowed s k n = not (hides s.marks k n) || (ltb k s.desks && ltb n s.rows)
 
 module _ (s : Sheet) where
-  pub marked_start : Marked s zero
-  marked_start = record { before = λ w h. absurd (omega arith) }
-
   -- a word with a row that it may not have
   pub marked_wrong : (w r : ℕ) → w < all_marks → at s.marks w < 2 ^ word_bits → MayHide s.desks s.rows w r → subset (at s.marks w) r ≡ false
       → false ≡ marked_right s
@@ -111,3 +108,6 @@ module _ {s : Sheet} {next : ℕ} (m : Marked s next) where
           let ok = m.before (k * mark_words + n / word_bits) (omega arith) (n % word_bits) t in
           or_right (not (hides s.marks k n)) (ltb k s.desks && ltb n s.rows)
           (and_both (ltb k s.desks) (ltb n s.rows) (lt-ltb k s.desks (omega (arith, ok.0))) (lt-ltb n s.rows (omega (arith, ok.1))))
+
+-- what `Sheet::marks_right` cites
+pub ruleset marked = (marked_wrong, marked_more, marked_all)

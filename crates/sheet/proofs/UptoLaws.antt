@@ -84,6 +84,10 @@ unfolding all_to
 all_intro f zero p = refl
 all_intro f (suc n) p = and_both (all_to f n) (f n) (all_intro f n (λ i h. p i (omega arith))) (p n (omega arith))
 
+-- fewer numbers pass as well
+pub all_less : (f : ℕ → Bool) (m n : ℕ) → m ≤ n → all_to f n ≡ true → all_to f m ≡ true
+all_less f m n h e = all_intro f m (λ i l. all-at f n e i (omega arith))
+
 -- one number fails, and so not all pass
 pub all_fails : (f : ℕ → Bool) (n i : ℕ) → i < n → f i ≡ false → all_to f n ≡ false
 all_fails f n i h e = elim (true_or_false (all_to f n)) [

@@ -1,11 +1,19 @@
 // The hide marks, in words: desk k has the `Sheet::WORDS` words from that many times k on, and a word is a set of table rows, one for each bit.
 ghost use Rattle.std.specs.Prelude.{◌≡◌, ◌<◌};
 ghost use Rattle.sets.specs.Limits.{most_rows, most_desks};
-ghost use Rattle.sheet.specs.Sheets.{hides, marked_right};
+ghost use Rattle.sheet.specs.Sheets.{word, hides, marked_right};
 ghost use Rattle.sheet.specs.Changes.{hiding, showing};
 ghost use Rattle.sheet.specs.Code.Surveys.{MayHide};
 
 use crate::Sheet;
+
+// Which word of marks has table row n of the desk.
+fn word_of(desk: usize, n: usize) -> usize
+    requires { (desk < most_desks) × (n < most_rows) }
+    ensures { result ≡ word desk n }
+{
+    desk * Sheet::WORDS + n / sets::word::BITS
+}
 
 impl Sheet {
     // The desk hides table row n.
@@ -14,8 +22,7 @@ impl Sheet {
         requires { (desk < most_desks) × (n < most_rows) }
         ensures { result ≡ hides self.now.marks desk n }
     {
-        let word = self.marks[desk * Sheet::WORDS + n / sets::word::BITS];
-        sets::word::has(word, n % sets::word::BITS)
+        sets::word::has(self.marks[word_of(desk, n)], n % sets::word::BITS)
     }
 
     // Table row n is hidden at the desk.
@@ -24,7 +31,7 @@ impl Sheet {
         requires { (desk < most_desks) × (n < most_rows) }
         ensures { self.new ≡ hiding self.old desk n }
     {
-        let at = desk * Sheet::WORDS + n / sets::word::BITS;
+        let at = word_of(desk, n);
         self.marks[at] = sets::word::with(self.marks[at], n % sets::word::BITS);
     }
 
@@ -38,6 +45,7 @@ impl Sheet {
     }
 
     // The rows that a word of marks may have: those below T, where its desk exists.
+    #[tactic(auto, using(crate::proofs::Markings::may_none, crate::proofs::Markings::may_first))]
     fn may_hide(&self, word: usize) -> u64
         ensures { MayHide self.now.desks self.now.rows word result }
     {
@@ -49,6 +57,7 @@ impl Sheet {
     }
 
     // Marks stand only for existing desks and rows below T.
+    #[tactic(auto, using(crate::proofs::Markings::marked))]
     pub(crate) fn marks_right(&self) -> bool
         ensures { result ≡ marked_right self.now }
     {

@@ -23,7 +23,7 @@ impl Sheet {
     }
 
     // The places from `used` on have set 0 and owner 0.
-    #[tactic(auto, using(crate::proofs::PlaceRows::place_rows))]
+    #[tactic(auto, using(crate::proofs::PlaceRows::place_rows, crate::proofs::Surveying::spare_start))]
     fn rest_empty(&self) -> bool
         ensures { result ≡ all_to (λ i. ltb i self.now.used || empty self.now i) most_places }
     {
@@ -36,6 +36,7 @@ impl Sheet {
     }
 
     // Where the places are right, how many rows each desk holds.
+    #[tactic(auto, using(crate::proofs::Surveying::tallying))]
     pub(crate) fn tally(&self) -> Option<[usize; Sheet::DESKS]>
         requires { (self.now.used ≤ most_places) × (self.now.desks ≤ most_desks) }
         ensures { Surveyed placed self.now result }

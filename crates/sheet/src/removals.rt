@@ -20,7 +20,7 @@ impl Sheet {
             let owner = self.owners[next];
             let set = sets::row_at(&self.sets, next);
             let own = owner == desk;
-            let goes = own && (from..upto).contains(&seen);
+            let goes = own & (from..upto).contains(&seen);
             sets::put_row(&mut self.sets, left, set);
             self.owners[left] = owner;
             seen += usize::from(own);
@@ -40,6 +40,7 @@ impl Sheet {
     }
 
     // The desk's rows number `from` to `upto` - 1 are taken out.
+    #[tactic(auto, using(crate::proofs::EmptyPlaces::closed_few, crate::proofs::EmptyPlaces::taken_out))]
     pub fn take_out(&mut self, desk: usize, from: usize, upto: usize)
         requires { self.old.used ≤ most_places }
         ensures { self.new ≡ without self.old desk from upto }

@@ -1,8 +1,9 @@
 // What the desks hold together, from how many rows each of them holds.
-ghost use Rattle.std.specs.Prelude.{◌≡◌, ◌-◌, ◌*◌, ◌≤◌, leb};
+ghost use Rattle.std.specs.Prelude.{◌≡◌, ◌-◌, ◌*◌, ◌≤◌, leb, take};
+ghost use Rattle.std.specs.List.{list_all};
 ghost use Rattle.sets.specs.Limits.{most_held, most_desks, promised};
 ghost use Rattle.theory.specs.Pairings.{at};
-ghost use Rattle.sheet.specs.Upto.{all_to, sum_to};
+ghost use Rattle.sheet.specs.Upto.{sum_to};
 
 use crate::Sheet;
 
@@ -10,7 +11,7 @@ impl Sheet {
     // No desk holds more than it may.
     pub(crate) fn none_over(&self, counts: &[usize; Sheet::DESKS]) -> bool
         requires { self.now.desks ≤ most_desks }
-        ensures { result ≡ all_to (λ k. leb (at counts.now k) most_held) self.now.desks }
+        ensures { result ≡ list_all (λ held. leb held most_held) (take self.now.desks counts.now) }
     {
         counts[..self.desks].iter().all(|&held| held <= Sheet::HELD)
     }

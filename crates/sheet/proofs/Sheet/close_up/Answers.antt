@@ -1,6 +1,6 @@
 -- `Sheet::close_up` meets its contract. The invariant: the places before the next are passed, and nothing but places has moved. Assumes nothing.
 use mathlib.Core.Path.{◌≡◌, refl, ap}
-use mathlib.Core.Bool.{◌&&◌}
+use mathlib.Core.Bool.{Bool, ◌&&◌}
 use native.Mathlib.Numerals.{unary_clauses}
 use native.Mathlib.Omega.{arith}
 use borrow.Author.Rules.{rules}
@@ -15,14 +15,20 @@ use Rattle.sheet.proofs.Sheet.close_up.Goals as goal
 pub loop-next-init : goal.loop-next-init
 loop-next-init c =
     let a = c.args in
-    record { seen_few = omega arith; left_few = omega arith; passed = passing_start a.desk a.from a.upto a.self.now.sets a.self.now.owners; rest = refl }
+    record {
+      seen_few = omega arith;
+      left_few = omega arith;
+      passed = passing_start a.desk a.from a.upto a.self.now.sets a.self.now.owners;
+      rest = refl;
+    }
 
 pub loop-next-preserved : goal.loop-next-preserved
 loop-next-preserved c =
     let l = c.loop-next in
-    let goes : c.if-own.goes ≡ (eqb (at l.self.owners l.next) c.args.desk && (leb c.args.from l.seen && ltb l.seen c.args.upto)) = search rules in
+    let among : c.contains.result ≡ (leb c.args.from l.seen && ltb l.seen c.args.upto) = search rules in
+    let goes = ap (λ (b : Bool). eqb (at l.self.owners l.next) c.args.desk && b) among in
     let passed =
-    passing_more l.invariant.passed (search rules) (search rules) c.if-own.goes goes c.from.result c.from.ensures c.from-left.result c.from-left.ensures
+    passing_more l.invariant.passed (search rules) (search rules) _ goes c.from.result c.from.ensures c.from-left.result c.from-left.ensures
     (omega (arith, c.loop-next-test.true, c.requires)) _ c.row_at-set.ensures.0 _ c.put_row.ensures in
     let few = passing_few passed (search rules) (search rules) in
     record {

@@ -20,7 +20,8 @@ returns c =
     let owners_long : length s.owners ≡ most_places = search rules in
     let few = c.requires in
     let rest : most_places * row_words - left * row_words ≡ (most_places - left) * row_words = omega arith in
+    let sets = filled_rest (left * row_words) (most_places * row_words - left * row_words) s.sets _ (c.fill.ensures.after (λ y e. e)) (omega arith) in
+    let owners = filled_rest left (most_places - left) s.owners _ (c.fill-2.ensures.after (λ y e. e)) (omega arith) in
     ap₂ (placing s left)
-    (filled_rest (left * row_words) (most_places * row_words - left * row_words) s.sets c.fill.new.self (c.fill.ensures.after (λ y e. e)) (omega arith)
-    ∙ ap (λ (n : ℕ). take (left * row_words) s.sets ++ replicate n zero) rest)
-    (filled_rest left (most_places - left) s.owners c.fill-2.new.self (c.fill-2.ensures.after (λ y e. e)) (omega arith) ∙ owners_emptied left s.owners (omega arith) owners_long)
+    (sets ∙ ap (λ (n : ℕ). take (left * row_words) s.sets ++ replicate n zero) rest)
+    (owners ∙ owners_emptied left s.owners (omega arith) owners_long)

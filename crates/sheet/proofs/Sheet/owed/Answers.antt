@@ -25,9 +25,9 @@ sum-requires-clause-fits c =
     let desks = c.args.self.now.desks in
     let long : length counts ≡ most_desks = search rules in
     let total = sum_take (λ (n : ℕ). promised - n) counts desks (omega (arith, c.requires)) in
+    let source = YieldsList-at c.map.ensures.source (YieldsList-from_slice (take desks counts) c.iter.ensures.rest) in
     fits_by_from_yields_list _ _ c.map.result _
-    (YieldsList-from_map _ (λ (n : ℕ). promised - n) (YieldsList-at c.map.ensures.source (YieldsList-from_slice (take desks counts) c.iter.ensures.rest))
-    c.map.ensures.closure (λ x r q k. search (rules, tests)))
+    (YieldsList-from_map _ (λ (n : ℕ). promised - n) source c.map.ensures.closure (λ x r q k. search (rules, tests)))
     (omega (arith, total, few counts desks c.requires))
 
 pub returns-clause-value : goal.returns-clause-value

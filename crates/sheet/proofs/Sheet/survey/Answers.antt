@@ -1,34 +1,11 @@
 -- `Sheet::survey` meets its contract: each test leaves what the next one asks for. Assumes nothing.
 use mathlib.Core.Path.{◌≡◌, sym, ◌∙◌, subst}
 use native.Mathlib.Omega.{arith}
-use borrow.Author.Rules.{rules}
 use Rattle.sheet.specs.Sheets.{sound}
 use Rattle.sheet.specs.Code.Surveys.{Surveyed}
-use Rattle.sheet.proofs.Checking.{wrong_shape, shape_few, wrong_places, rest_says}
+use Rattle.sheet.proofs.Checking.{rest_says}
 use Rattle.sheet.proofs.Surveying.{surveyed}
 use Rattle.sheet.proofs.Sheet.survey.Goals as goal
-use Rattle.sheet.proofs.Sheet.survey.Goals.{then-none_over, else-none_over, then-self-owed-le-PLACES, else-self-owed-le-PLACES}
-
-pub returns-then-not-shaped : goal.returns-then-not-shaped
-returns-then-not-shaped c = wrong_shape _ (sym c.shaped.ensures ∙ c.if-not-shaped.true)
-
-pub tally-requires : goal.tally-requires
-tally-requires c = shape_few _ (sym c.shaped.ensures ∙ c.if-not-shaped.false)
-
-pub returns-in_err-counts : goal.returns-in_err-counts
-returns-in_err-counts c =
-    subst (Surveyed sound c.args.self.now) (sym c.from_residual.ensures) (wrong_places _ (sym c.shaped.ensures ∙ c.if-not-shaped.false) c.in_err-counts.ensures)
-
-pub none_over-requires : goal.none_over-requires
-none_over-requires c = (shape_few _ (sym c.shaped.ensures ∙ c.if-not-shaped.false)).1
-
-pub owed-requires : goal.owed-requires
-owed-requires c = (shape_few _ (sym c.shaped.ensures ∙ c.if-not-shaped.false)).1
-
-pub overflow_add-self : goal.overflow_add-self
-overflow_add-self c =
-    let few = shape_few _ (sym c.shaped.ensures ∙ c.if-not-shaped.false) in
-    search (rules, few.0, c.owed.ensures.upper_bound)
 
 pub returns : goal.returns
 returns c =
