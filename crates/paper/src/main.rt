@@ -10,15 +10,13 @@ mod rows; // rows.rt: marked rows by the paper's numbers
 
 use example::Example;
 use std::io;
-use std::io::{BufWriter, Write};
+use std::io::BufWriter;
 
 fn main(rt: HostRuntime) -> io::Result<()> {
     let script = show::script(&rt, rt.alloc())?;
     let mut out = BufWriter::new(rt.alloc(), io::writer(&rt))?;
     let mut example = Example::none(rt.alloc());
-    let tally = show::play(&mut out, &script, b"|", |out, tally, numbers| {
+    show::play(&mut out, &script, b"|", |out, tally, numbers| {
         line::trial(out, rt.alloc(), &mut example, tally, numbers)
-    })?;
-    tally.conclude(&mut out)?;
-    out.flush()
+    })
 }

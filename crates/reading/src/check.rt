@@ -26,7 +26,7 @@ pub type Said = show::Said<Header, 26>;
 
 fn heard(lesson: Lesson) -> Said {
     match lesson {
-        Lesson::Read(d, rows) => Said::told(Header {
+        Lesson::Read(d, rows) => Said::accepted(Header {
             d: d as u64,
             rows: rows as u64,
         }),

@@ -5,14 +5,12 @@ mod check; // check.rt: one file through `read` and through the reader
 mod line; // line.rt: a line of the script, and the file that it stands for
 
 use std::io;
-use std::io::{BufWriter, Write};
+use std::io::BufWriter;
 
 fn main(rt: HostRuntime) -> io::Result<()> {
     let script = show::script(&rt, rt.alloc())?;
     let mut out = BufWriter::new(rt.alloc(), io::writer(&rt))?;
-    let tally = show::play(&mut out, &script, b"|", |out, tally, numbers| {
+    show::play(&mut out, &script, b"|", |out, tally, numbers| {
         Ok(tally.count(line::trial(out, numbers)?))
-    })?;
-    tally.conclude(&mut out)?;
-    out.flush()
+    })
 }

@@ -22,7 +22,7 @@ pub struct Table<'a> {
 
 fn heard(saved: Saved) -> Said {
     match saved {
-        Saved::Length(n) => Said::told(Length(n as u64)),
+        Saved::Length(n) => Said::accepted(Length(n as u64)),
         Saved::Refused(why) => Said::refused(
             refusals::number(why) as u64,
             refusals::row(why) as u64,
@@ -83,7 +83,7 @@ pub fn check_file(out: &mut impl Write, file: &[u8], bytes: &[u64]) -> io::Resul
     let mut list = [0u64; ROWS];
     match files::read(file, &mut list) {
         Lesson::Read(d, rows) => {
-            let said = Said::told(Length(bytes.len() as u64));
+            let said = Said::accepted(Length(bytes.len() as u64));
             let rows = list.get(..rows).unwrap_or(&[]);
             check(out, Table { d, rows }, ROOM, Wanted { said, bytes })
         }

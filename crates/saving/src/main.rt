@@ -7,14 +7,12 @@ mod line; // line.rt: a line of the script, and the table or the file that it st
 mod wanted; // wanted.rt: what must be answered, and which bytes must be written
 
 use std::io;
-use std::io::{BufWriter, Write};
+use std::io::BufWriter;
 
 fn main(rt: HostRuntime) -> io::Result<()> {
     let script = show::script(&rt, rt.alloc())?;
     let mut out = BufWriter::new(rt.alloc(), io::writer(&rt))?;
-    let tally = show::play(&mut out, &script, b"|<", |out, tally, numbers| {
+    show::play(&mut out, &script, b"|<", |out, tally, numbers| {
         Ok(tally.count(line::trial(out, rt.alloc(), numbers)?))
-    })?;
-    tally.conclude(&mut out)?;
-    out.flush()
+    })
 }

@@ -12,25 +12,13 @@ use std::alloc::Global;
 use std::io;
 use std::io::{BufWriter, Write};
 
-// One view by its number, of at most so many rows.
-fn trial(
-    out: &mut impl Write,
-    alloc: Global,
-    tally: Tally,
-    number: u64,
-    d: usize,
-    most: usize,
-) -> io::Result<Tally> {
-    let view = views::spelt(alloc, number, d, most)?;
-    compare(out, tally, d, &view)
-}
-
 // All views of 0 to 4 rows over 1 to 3 values: with k kinds of rows there are 1 + k + k^2 + k^3 + k^4.
 fn every_view(out: &mut impl Write, alloc: Global) -> io::Result<Tally> {
     let mut tally = Tally::default();
     for (d, many) in [(1, 5), (2, 121), (3, 2801)] {
         for number in 0..many {
-            tally = trial(out, alloc, tally, number, d, 4)?;
+            let view = views::spelt(alloc, number, d, 4)?;
+            tally = compare(out, tally, d, &view)?;
         }
     }
     Ok(tally)
@@ -45,7 +33,8 @@ fn drawn_views(out: &mut impl Write, alloc: Global) -> io::Result<Tally> {
         number = views::stir(shape);
         let d = 1 + (shape / 256 % 5) as usize;
         let most = (shape / 65536 % 8) as usize;
-        tally = trial(out, alloc, tally, number, d, most)?;
+        let view = views::spelt(alloc, number, d, most)?;
+        tally = compare(out, tally, d, &view)?;
     }
     Ok(tally)
 }

@@ -16,13 +16,6 @@ fn row_kinds(d: usize) -> u64
     }
 }
 
-// The row that a number stands for, which counts round and round through the kinds.
-fn row_of(number: u64, kinds: u64) -> u64
-    requires { 0 < kinds }
-{
-    1 + number % kinds
-}
-
 // The view of a number: its digits are the rows, written with as many digits as there are kinds of rows and with no zero, so that each number has
 // its own view, the longer ones after all shorter ones. Where it has more digits, the first `most` are taken.
 pub fn spelt(alloc: Global, number: u64, d: usize, most: usize) -> Result<Vec<u64>, AllocError> {
@@ -33,7 +26,8 @@ pub fn spelt(alloc: Global, number: u64, d: usize, most: usize) -> Result<Vec<u6
         if left == 0 {
             break;
         }
-        view.push(row_of(left - 1, kinds))?;
+        // Numbers count round and round through the kinds of rows.
+        view.push(1 + (left - 1) % kinds)?;
         left = (left - 1) / kinds;
     }
     Ok(view)

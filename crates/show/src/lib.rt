@@ -10,7 +10,7 @@ mod tally; // tally.rt: how many comparisons agree and differ
 pub mod texts; // texts.rt: words with numbers in them, as bytes
 
 pub use columns::Columns;
-pub use lines::{Lines, play, script, split_before};
+pub use lines::{play, script, split_before};
 pub use lists::{part, positions, spaced};
 pub use names::{Family, Names, OneOf, row};
 pub use said::{Said, conclude};

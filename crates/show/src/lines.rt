@@ -1,6 +1,5 @@
 // The script on standard input, and its lines.
-ghost use Rattle.std.specs.Prelude.{◌≡◌, ◌++◌, length, IfSome};
-ghost use Rattle.std.specs.Iterator.{at_most};
+ghost use Rattle.std.specs.Prelude.{◌≡◌, ◌++◌, IfSome};
 
 use crate::Tally;
 use crate::texts::NEWLINE;
@@ -26,36 +25,19 @@ pub fn split_before(text: &[u8], byte: u8) -> Option<(&[u8], &[u8])>
     Some(text.split_at(at))
 }
 
-// The lines of a script that are left, of which the last may have no newline.
-#[derive(Drop)]
-pub struct Lines<'a>(pub &'a [u8]);
-
-impl<'a> Iterator for Lines<'a> {
-    type Item = &'a [u8];
-
-    ghost remaining = { λ lines. at_most (length lines.0.now) };
-
-    fn next(&mut self) -> Option<&'a [u8]> {
-        if self.0.is_empty() {
-            return None;
-        }
-        let (line, rest) = split_before(self.0, NEWLINE).unwrap_or((self.0, &[]));
-        self.0 = rest.get(1..).unwrap_or(&[]);
-        Some(line)
-    }
-}
-
-// Plays the lines of a script. A line has words to print; where it has one of the signs, what begins with the first of these is tried, and counted.
+// Plays the lines of a script, of which the last may have no newline, and says how the comparisons went. A line has words to print; where it has one
+// of the signs, what begins with the first of these is tried, and counted.
 pub fn play<W: Write, F: FnMut(&mut W, Tally, &[u8]) -> io::Result<Tally>>(
     out: &mut W,
     script: &[u8],
     signs: &[u8],
     mut trial: F,
-) -> io::Result<Tally>
+) -> io::Result<()>
     requires { F.IsAlwaysCallable trial }
 {
     let mut tally = Tally::default();
-    for line in Lines(script) {
+    for ended in script.split_inclusive(|&byte| byte == NEWLINE) {
+        let line = ended.strip_suffix(b"\n").unwrap_or(ended);
         match signs.iter().find_map(|&sign| split_before(line, sign)) {
             Some((words, numbers)) => {
                 out.write_all(words)?;
@@ -67,5 +49,6 @@ pub fn play<W: Write, F: FnMut(&mut W, Tally, &[u8]) -> io::Result<Tally>>(
             }
         }
     }
-    Ok(tally)
+    tally.conclude(out)?;
+    out.flush()
 }

@@ -12,7 +12,8 @@ pub struct Said<T, const ROW: u64> {
 }
 
 impl<T: Default, const ROW: u64> Said<T, ROW> {
-    pub fn told(told: T) -> Self {
+    // Nothing is refused.
+    pub fn accepted(told: T) -> Self {
         Said {
             refusal: 0,
             row: 0,

@@ -1,7 +1,6 @@
 // Words with numbers in them, as bytes.
 ghost use Rattle.std.specs.Prelude.{◌≤◌, length};
 
-use crate::Lines;
 pub use crate::columns::numbers;
 use std::io;
 use std::io::Write;
@@ -29,9 +28,9 @@ pub fn say(out: &mut impl Write, words: &[u8], numbers: &[u64]) -> io::Result<()
 
 // Says one of some lines, counted from 0, with the numbers that it has; the last where there are not so many.
 pub fn say_line(out: &mut impl Write, lines: &[u8], line: u64, numbers: &[u64]) -> io::Result<()> {
-    let said = Lines(lines)
-        .nth(line as usize)
-        .or_else(|| Lines(lines).last());
+    let mut each = lines.split(|&byte| byte == NEWLINE);
+    let last = lines.rsplit(|&byte| byte == NEWLINE).next();
+    let said = each.nth(line as usize).or(last);
     say(out, said.unwrap_or(lines), numbers)
 }
 
