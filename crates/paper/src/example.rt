@@ -45,18 +45,18 @@ impl Example {
         } else {
             Names::Salaries
         };
-        let view = Vec::from_slice(alloc, line.from(ROWS))?;
+        let view = Vec::from_slice(alloc, line.from_column(ROWS))?;
         let kept = kept(line.row[1] as usize, &view);
         Ok(Example { names, view, kept })
     }
 
     // The family of the marked rows.
     pub fn family(&self, marks: u64) -> Family {
-        self.family_of_sets(families::family(&self.view, marks))
+        self.family_of(families::family(&self.view, marks))
     }
 
     // The family with these sets.
-    pub fn family_of_sets(&self, family: u64) -> Family {
+    pub fn family_of(&self, family: u64) -> Family {
         Family {
             names: self.names,
             family,

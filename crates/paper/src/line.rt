@@ -60,31 +60,26 @@ pub fn trial(
     numbers: &[u8],
 ) -> io::Result<Tally> {
     let line = Columns::read(numbers, [0; 12]);
-    let row = line.row;
-    let marks = named(&row[1..4]);
-    let sets = gathered(&row[4..]);
-    let agrees = match Kind::from(row[0]) {
+    let [kind, d, many, row, wanted, ..] = line.row;
+    let marks = named(&line.row[1..4]);
+    let sets = gathered(&line.row[4..]);
+    let agrees = match Kind::from(kind) {
         Kind::View => {
             *example = Example::read(alloc, &line)?;
             return example.show(out, tally);
         }
-        Kind::Large => return large::keeps_first(
-            out,
-            tally,
-            row[1] as usize,
-            row[2] as usize,
-            row[3],
-            row[4],
-        ),
-        Kind::Family => compare(out, example.family(marks), example.family_of_sets(sets))?,
+        Kind::Family => compare(out, example.family(marks), example.family_of(sets))?,
         Kind::Kept => compare(out, example.kept_rows(marks), example.rows(sets / 2))?,
         Kind::Within => {
-            let both = example.family(EVERY).family | sets;
+            let whole = example.family(EVERY).family;
             compare(
                 out,
-                example.family_of_sets(both),
-                example.family_of_sets(sets),
+                example.family_of(whole | sets),
+                example.family_of(sets),
             )?
+        }
+        Kind::Large => {
+            return large::keeps_first(out, tally, d as usize, many as usize, row, wanted);
         }
     };
     Ok(tally.count(agrees))

@@ -66,6 +66,6 @@ pub fn trial(out: &mut impl Write, numbers: &[u8]) -> io::Result<bool> {
         file.get(..length as usize).unwrap_or(&file),
         places as usize,
         must,
-        line.from(CELLS),
+        line.from_column(CELLS),
     )
 }

@@ -34,11 +34,10 @@ fn heard(saved: Saved) -> Said {
 fn reads_as(file: &[u8], table: Table<'_>) -> bool {
     let mut list = [0u64; ROWS];
     match files::read(file, &mut list) {
-        Lesson::Read(d, rows) => table
-            == Table {
-                d,
-                rows: list.get(..rows).unwrap_or(&[]),
-            },
+        Lesson::Read(d, rows) => {
+            let rows = list.get(..rows).unwrap_or(&[]);
+            table == Table { d, rows }
+        }
         Lesson::Refused(_) => false,
     }
 }

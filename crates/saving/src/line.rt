@@ -60,7 +60,7 @@ fn table_trial(out: &mut impl Write, numbers: &[u8]) -> io::Result<bool> {
             row,
             told: Length(length),
         },
-        bytes: line.from(BYTES),
+        bytes: line.from_column(BYTES),
     };
     check::check(out, table, room as usize, wanted)
 }
@@ -78,12 +78,12 @@ fn listed(numbers: &[u8]) -> Columns<MOST> {
 // A file that is read and written again, or refused.
 fn file_trial(out: &mut impl Write, alloc: Global, text: &[u8]) -> io::Result<bool> {
     if let Some((file, refusal)) = split_before(text, b'=') {
-        let file = bytes(alloc, listed(file).from(0))?;
+        let file = bytes(alloc, listed(file).from_column(0))?;
         return check::check_refused(out, &file, listed(refusal).row[REFUSAL]);
     }
     let (file, again) = split_before(text, b'>').unwrap_or((text, &[]));
-    let file = bytes(alloc, listed(file).from(0))?;
-    check::check_file(out, &file, listed(again).from(0))
+    let file = bytes(alloc, listed(file).from_column(0))?;
+    check::check_file(out, &file, listed(again).from_column(0))
 }
 
 // The table or the file of the numbers, which begin with their sign.

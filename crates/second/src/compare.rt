@@ -59,13 +59,8 @@ fn show_difference(
     rule: &Listed,
 ) -> io::Result<()> {
     write!(out, "DIFFERENT on")?;
-    spaced(
-        out,
-        view.iter().map(|&set| OneOf {
-            names: Names::Letters,
-            set,
-        }),
-    )?;
+    let names = Names::Letters;
+    spaced(out, view.iter().map(|&set| OneOf { names, set }))?;
     write!(out, "\n  the store answers {}, and its list is", store.kept)?;
     spaced(out, store.list.iter())?;
     write!(out, "\n  by definition it is {}, and the list", rule.kept)?;

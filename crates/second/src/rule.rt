@@ -22,14 +22,13 @@ fn raises(view: &[u64], kept: u64, i: usize) -> bool {
 
 // Step 2: the others in view order, where one raises the rank of the rows kept so far.
 fn raising(view: &[u64], start: u64) -> u64 {
-    (0..view.len()).fold(
-        start,
-        |kept, i| if raises(view, kept, i) {
-            with(kept, i)
-        } else {
-            kept
-        },
-    )
+    let mut kept = start;
+    for i in 0..view.len() {
+        if raises(view, kept, i) {
+            kept = with(kept, i);
+        }
+    }
+    kept
 }
 
 // The marks of the rows that DISTINCT is to keep.

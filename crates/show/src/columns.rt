@@ -61,7 +61,7 @@ impl<const N: usize> Columns<N> {
     }
 
     // The numbers from a column on.
-    pub fn from(&self, column: usize) -> &[u64] {
+    pub fn from_column(&self, column: usize) -> &[u64] {
         self.row.get(column..self.filled).unwrap_or(&[])
     }
 }

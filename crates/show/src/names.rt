@@ -47,17 +47,8 @@ fn joined<W: fmt::Write, T: fmt::Display + Drop, F: Fn(usize) -> T>(
 }
 
 // The names of a set's values, with commas between.
-#[derive(Clone, Copy)]
-struct Values {
-    names: Names,
-    set: u64,
-}
-
-impl fmt::Display for Values {
-    fn fmt<W: fmt::Write>(&self, f: &mut fmt::Formatter<W>) -> fmt::Result {
-        let names = self.names;
-        joined(f, self.set, ", ", |value| Value { names, value })
-    }
+fn values<W: fmt::Write>(f: &mut fmt::Formatter<W>, names: Names, set: u64) -> fmt::Result {
+    joined(f, set, ", ", |value| Value { names, value })
 }
 
 // A row in the paper's brackets: one of these values.
@@ -69,9 +60,9 @@ pub struct OneOf {
 
 impl fmt::Display for OneOf {
     fn fmt<W: fmt::Write>(&self, f: &mut fmt::Formatter<W>) -> fmt::Result {
-        let names = self.names;
-        let set = self.set;
-        write!(f, "[{}]", Values { names, set })
+        f.write_str("[")?;
+        values(f, self.names, self.set)?;
+        f.write_str("]")
     }
 }
 
@@ -88,9 +79,9 @@ struct AllOf {
 
 impl fmt::Display for AllOf {
     fn fmt<W: fmt::Write>(&self, f: &mut fmt::Formatter<W>) -> fmt::Result {
-        let names = self.names;
-        let set = self.set;
-        write!(f, "{{{}}}", Values { names, set })
+        f.write_str("{")?;
+        values(f, self.names, self.set)?;
+        f.write_str("}")
     }
 }
 
@@ -107,14 +98,9 @@ impl fmt::Display for Family {
         if self.family == 0 {
             return f.write_str("none");
         }
-        joined(
-            f,
-            self.family,
-            " ",
-            |set| AllOf {
-                names,
-                set: set as u64,
-            },
-        )
+        joined(f, self.family, " ", |set| {
+            let set = set as u64;
+            AllOf { names, set }
+        })
     }
 }
