@@ -1,7 +1,7 @@
 // The numbers of a line, in columns.
 ghost use Rattle.std.specs.Prelude.{◌<◌};
 
-// A number with one digit more. What would be too large is the largest number.
+// A number with one digit more. What would be too large is the largest number, and so are the last few below it, which saturating steps would read.
 fn longer(n: u64, digit: u8) -> u64
     requires { digit < 10 }
 {
