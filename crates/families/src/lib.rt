@@ -5,11 +5,11 @@
 #![tactic(auto)]
 
 // The marks of every position.
-pub const EVERY: u64 = 0xffff_ffff_ffff_ffff;
+pub const EVERY: u64 = u64::MAX;
 
 // Value v is in the set; so too a set in a family, and a position in marks. No number has a bit 64.
 pub fn has(set: u64, v: usize) -> bool {
-    if v < 64 { (set >> v) % 2 == 1 } else { false }
+    v < 64 && (set >> v) % 2 == 1
 }
 
 // The set with the value v put in.
@@ -19,62 +19,35 @@ pub fn with(set: u64, v: usize) -> u64 {
 
 // How many values the set has.
 pub fn size(set: u64) -> usize {
-    u64::count_ones(set) as usize
+    set.count_ones() as usize
 }
 
 // The marks of the first n positions of a list.
 pub fn marked(list: &[usize], n: usize) -> u64 {
-    let mut marks: u64 = 0;
-    let mut next: usize = 0;
-    while next < list.len() {
-        let i = next;
-        next += 1;
-        if i < n {
-            marks = with(marks, list[i]);
-        }
-    }
-    marks
+    list.iter().take(n).fold(0, |marks, &i| with(marks, i))
 }
 
 // What a value set becomes when one row more is gone through: the family of the set with one of the row's values put in, whichever is chosen.
 fn choose(set: usize, row: u64) -> u64 {
-    let mut family: u64 = 0;
-    let mut next: usize = 0;
-    while next < 6 {
-        let v = next;
-        next += 1;
-        if has(row, v) {
-            family = with(family, with(set as u64, v) as usize);
-        }
-    }
-    family
+    (0..6)
+        .filter(|&v| has(row, v))
+        .fold(0, |family, v| with(family, with(set as u64, v) as usize))
 }
 
 // What a family becomes when one row more is gone through, from every one of its sets.
 pub fn choose_each(family: u64, row: u64) -> u64 {
-    let mut grown: u64 = 0;
-    let mut next: usize = 0;
-    while next < 64 {
-        let set = next;
-        next += 1;
-        if has(family, set) {
-            grown = grown | choose(set, row);
-        }
-    }
-    grown
+    (0..64)
+        .filter(|&set| has(family, set))
+        .fold(0, |grown, set| grown | choose(set, row))
 }
 
 // The family of the marked rows: the value sets of all choices. A choice starts with the empty set, which has number 0.
 pub fn family(view: &[u64], marks: u64) -> u64 {
-    let mut sets: u64 = 1;
-    let mut next: usize = 0;
-    while next < view.len() {
-        let i = next;
-        next += 1;
-        if has(marks, i) {
-            sets = choose_each(sets, view[i]);
-        }
-    }
+    let sets = view
+        .iter()
+        .enumerate()
+        .filter(|&(i, _)| has(marks, i))
+        .fold(1, |sets, (_, &row)| choose_each(sets, row));
     // Still only the empty set: no row is marked, and then the family is empty (Definition 2.5).
     if sets == 1 { 0 } else { sets }
 }
@@ -82,17 +55,9 @@ pub fn family(view: &[u64], marks: u64) -> u64 {
 // The fewest rows of any sublist with the view's family, by trying every sublist: for views of a few rows.
 pub fn fewest(view: &[u64]) -> usize {
     let whole = family(view, EVERY);
-    let end = with(0, view.len());
-    let mut least = view.len();
-    let mut next: u64 = 0;
-    while next < end {
-        let marks = next;
-        next += 1;
-        if family(view, marks) == whole {
-            if size(marks) < least {
-                least = size(marks);
-            }
-        }
-    }
-    least
+    (0..with(0, view.len()))
+        .filter(|&marks| family(view, marks) == whole)
+        .map(size)
+        .min()
+        .unwrap_or(view.len())
 }

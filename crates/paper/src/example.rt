@@ -1,47 +1,23 @@
 // One example: its rows, those that DISTINCT keeps, and the families of both.
-use crate::compare::{FAMILY, compare, same_number};
-use crate::rows::show_rows;
+use crate::compare::compare;
+use crate::rows::Rows;
 use distinct::Answer;
-use families::EVERY;
-use show::{Names, Tally, text};
+use families::{EVERY, has};
+use show::{Columns, Family, Names, OneOf, Tally};
+use std::alloc::{AllocError, Global};
 use std::io;
 use std::io::Write;
 
-// The numbers of the line that has the view, of which so many are filled; the marks of the rows that DISTINCT keeps; and how the comparisons went.
-#[derive(Clone, Copy)]
+// The names of an example's values, its view, and the marks of the rows that DISTINCT keeps.
+#[derive(Drop)]
 pub struct Example {
-    pub row: [u64; 12],
-    pub filled: usize,
-    pub kept: u64,
-    pub tally: Tally,
+    names: Names,
+    view: Vec<u64>,
+    kept: u64,
 }
 
 // The rows of an example begin at this column.
 const ROWS: usize = 4;
-
-// No example yet.
-pub fn none() -> Example {
-    Example {
-        row: [0; 12],
-        filled: 0,
-        kept: 0,
-        tally: Tally::fresh(),
-    }
-}
-
-// The view of a line's numbers.
-pub fn view(row: &[u64], filled: usize) -> &[u64] {
-    show::part(row, ROWS, filled)
-}
-
-// The names of a line's values.
-pub fn names(row: [u64; 12]) -> Names {
-    if row[2] == 0 {
-        Names::Letters
-    } else {
-        Names::Salaries
-    }
-}
 
 // The marks of the rows that DISTINCT keeps; none where it refuses.
 fn kept(d: usize, view: &[u64]) -> u64 {
@@ -52,69 +28,79 @@ fn kept(d: usize, view: &[u64]) -> u64 {
     }
 }
 
-// The rows, and those that are kept.
-fn show_view(out: &mut impl Write, names: Names, view: &[u64], kept: u64) -> io::Result<()> {
-    text(out, b"\n  rows:                   ")?;
-    show_rows(out, names, view, EVERY, true)?;
-    text(out, b"\n  DISTINCT keeps:         ")?;
-    show_rows(out, names, view, kept, true)
-}
+impl Example {
+    // No example yet.
+    pub fn none(alloc: Global) -> Example {
+        Example {
+            names: Names::Letters,
+            view: Vec::new(alloc),
+            kept: 0,
+        }
+    }
 
-// The kept rows have the family of all.
-fn same_family(out: &mut impl Write, names: Names, view: &[u64], kept: u64) -> io::Result<bool> {
-    let whole = families::family(view, EVERY);
-    text(out, b"\n  family of all rows:       ")?;
-    show::family(out, names, whole)?;
-    text(out, b"\n  family of the kept rows:  ")?;
-    compare(
-        out,
-        FAMILY,
-        names,
-        view,
-        families::family(view, kept),
-        whole,
-    )
-}
+    // The example of a line's numbers.
+    pub fn read(alloc: Global, line: &Columns<12>) -> Result<Example, AllocError> {
+        let names = if line.row[2] == 0 {
+            Names::Letters
+        } else {
+            Names::Salaries
+        };
+        let view = Vec::from_slice(alloc, line.from_column(ROWS))?;
+        let kept = kept(line.row[1] as usize, &view);
+        Ok(Example { names, view, kept })
+    }
 
-// No fewer rows would do.
-fn fewest(out: &mut impl Write, view: &[u64], kept: u64) -> io::Result<bool> {
-    same_number(
-        out,
-        b"  fewest rows that have it: ",
-        families::size(kept) as u64,
-        families::fewest(view) as u64,
-    )
-}
+    // The family of the marked rows.
+    pub fn family(&self, marks: u64) -> Family {
+        self.family_of(families::family(&self.view, marks))
+    }
 
-// Shows the rows, the kept ones and the families, and compares them.
-fn shown(
-    out: &mut impl Write,
-    before: Tally,
-    names: Names,
-    view: &[u64],
-    kept: u64,
-) -> io::Result<Tally> {
-    show_view(out, names, view, kept)?;
-    let alike = before.count(same_family(out, names, view, kept)?);
-    Ok(alike.count(fewest(out, view, kept)?))
-}
+    // The family with these sets.
+    pub fn family_of(&self, family: u64) -> Family {
+        Family {
+            names: self.names,
+            family,
+        }
+    }
 
-// The example of a line's numbers.
-pub fn look(
-    out: &mut impl Write,
-    before: Tally,
-    row: [u64; 12],
-    filled: usize,
-) -> io::Result<Example> {
-    let d = row[1] as usize;
-    let names = names(row);
-    let view = view(&row, filled);
-    let kept = kept(d, view);
-    let tally = shown(out, before, names, view, kept)?;
-    Ok(Example {
-        row,
-        filled,
-        kept,
-        tally,
-    })
+    // The marked rows.
+    pub fn rows(&self, marks: u64) -> Rows {
+        Rows {
+            many: self.view.len(),
+            marks,
+        }
+    }
+
+    // Those of the marked rows that DISTINCT keeps.
+    pub fn kept_rows(&self, marks: u64) -> Rows {
+        self.rows(self.kept & marks)
+    }
+
+    // The marked rows by their numbers, and in full with their values.
+    fn show_rows(&self, out: &mut impl Write, marks: u64) -> io::Result<()> {
+        let names = self.names;
+        for (i, &set) in self.view.iter().enumerate() {
+            if has(marks, i) {
+                write!(out, "  eta_{} {}", i + 1, OneOf { names, set })?;
+            }
+        }
+        Ok(())
+    }
+
+    // Shows the rows, the kept ones and the families, and compares them: the kept rows have the family of all, and no fewer rows would do.
+    pub fn show(&self, out: &mut impl Write, tally: Tally) -> io::Result<Tally> {
+        write!(out, "\n  rows:                   ")?;
+        self.show_rows(out, EVERY)?;
+        write!(out, "\n  DISTINCT keeps:         ")?;
+        self.show_rows(out, self.kept)?;
+        let whole = self.family(EVERY);
+        write!(
+            out,
+            "\n  family of all rows:       {whole}\n  family of the kept rows:  "
+        )?;
+        let same_family = compare(out, self.family(self.kept), whole)?;
+        write!(out, "  fewest rows that have it: ")?;
+        let fewest = compare(out, families::size(self.kept), families::fewest(&self.view))?;
+        Ok(tally.count(same_family).count(fewest))
+    }
 }

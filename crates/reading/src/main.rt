@@ -4,27 +4,13 @@
 mod check; // check.rt: one file through `read` and through the reader
 mod line; // line.rt: a line of the script, and the file that it stands for
 
-use show::{Tally, texts};
 use std::io;
-use std::io::{BufWriter, Write};
-
-// All lines of the script.
-fn play(out: &mut impl Write, script: &[u8]) -> io::Result<Tally> {
-    let mut tally = Tally::fresh();
-    let mut next: usize = 0;
-    while next < script.len() {
-        let at = next;
-        let end = texts::find(script, at, texts::NEWLINE);
-        next = end + 1;
-        tally = line::play(out, tally, &script[at..end])?;
-    }
-    Ok(tally)
-}
+use std::io::BufWriter;
 
 fn main(rt: HostRuntime) -> io::Result<()> {
     let script = show::script(&rt, rt.alloc())?;
     let mut out = BufWriter::new(rt.alloc(), io::writer(&rt))?;
-    let tally = play(&mut out, &script)?;
-    tally.conclude(&mut out)?;
-    out.flush()
+    show::play(&mut out, &script, b"|", |out, tally, numbers| {
+        Ok(tally.count(line::trial(out, numbers)?))
+    })
 }

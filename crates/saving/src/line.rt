@@ -5,8 +5,10 @@
 // Where it has a < instead, it stands for a file: after the < come its bytes, and then after a > those that must be written once it is read, or
 // after an = the number that it must be refused with.
 use crate::check;
-use crate::check::{ROWS, Said};
-use show::{Tally, text, texts};
+use crate::check::{ROWS, Table};
+use crate::wanted::{Length, Said, Wanted};
+use show::{Columns, split_before};
+use std::alloc::{AllocError, Global};
 use std::io;
 use std::io::Write;
 
@@ -22,76 +24,73 @@ const MOST: usize = 40;
 // A table of 257 rows: the set in each row but one.
 fn rows(set: u64, row: u64, other: u64) -> [u64; ROWS] {
     let mut table = [set; ROWS];
-    if row < 257 {
-        table[row as usize] = other;
+    if let Some(changed) = table.get_mut(row as usize) {
+        *changed = other;
     }
     table
 }
 
 // The table of the numbers. Where they say nothing else, all rows are the same and the buffer takes any file.
-fn trial(out: &mut impl Write, text: &[u8]) -> io::Result<bool> {
-    let mut row = [0u64; BYTES + MOST];
-    row[3] = 257;
-    row[9] = 2100;
-    let filled = texts::numbers(text, &mut row);
-    let table = rows(row[2], row[3], row[8]);
-    let must = Said {
-        refusal: row[4],
-        row: row[5],
-        length: row[6],
+fn table_trial(out: &mut impl Write, numbers: &[u8]) -> io::Result<bool> {
+    let mut usual = [0u64; BYTES + MOST];
+    usual[3] = 257;
+    usual[9] = 2100;
+    let line = Columns::read(numbers, usual);
+    let [
+        d,
+        many,
+        set,
+        changed,
+        refusal,
+        row,
+        length,
+        _,
+        other,
+        room,
+        ..
+    ] = line.row;
+    let rows = rows(set, changed, other);
+    let table = Table {
+        d: d as usize,
+        rows: rows.get(..many as usize).unwrap_or(&[]),
     };
-    check::check(
-        out,
-        row[0] as usize,
-        show::part(&table, 0, row[1] as usize),
-        row[9] as usize,
-        must,
-        show::part(&row, BYTES, filled),
-    )
+    let wanted = Wanted {
+        said: Said {
+            refusal,
+            row,
+            told: Length(length),
+        },
+        bytes: line.from_column(BYTES),
+    };
+    check::check(out, table, room as usize, wanted)
 }
 
 // The numbers as bytes.
-fn bytes(numbers: &[u64; MOST]) -> [u8; MOST] {
-    let mut file = [0u8; MOST];
-    let mut next: usize = 0;
-    while next < MOST {
-        let i = next;
-        next += 1;
-        file[i] = (numbers[i] % 256) as u8;
-    }
-    file
+fn bytes(alloc: Global, numbers: &[u64]) -> Result<Vec<u8>, AllocError> {
+    numbers.iter().map(|&n| (n % 256) as u8).collect(alloc)
+}
+
+// The numbers of a part of a line with a file.
+fn listed(numbers: &[u8]) -> Columns<MOST> {
+    Columns::read(numbers, [0; MOST])
 }
 
 // A file that is read and written again, or refused.
-fn file_trial(out: &mut impl Write, text: &[u8], must: &[u8], refused: bool) -> io::Result<bool> {
-    let mut numbers = [0u64; MOST];
-    let length = texts::numbers(text, &mut numbers);
-    let file = bytes(&numbers);
-    let mut wanted = [0u64; MOST];
-    let filled = texts::numbers(must, &mut wanted);
-    let file = texts::front(&file, length);
-    if refused {
-        return check::check_refused(out, file, wanted[REFUSAL]);
+fn file_trial(out: &mut impl Write, alloc: Global, text: &[u8]) -> io::Result<bool> {
+    if let Some((file, refusal)) = split_before(text, b'=') {
+        let file = bytes(alloc, listed(file).from_column(0))?;
+        return check::check_refused(out, &file, listed(refusal).row[REFUSAL]);
     }
-    check::check_file(out, file, show::part(&wanted, 0, filled))
+    let (file, again) = split_before(text, b'>').unwrap_or((text, &[]));
+    let file = bytes(alloc, listed(file).from_column(0))?;
+    check::check_file(out, &file, listed(again).from_column(0))
 }
 
-pub fn play(out: &mut impl Write, tally: Tally, line: &[u8]) -> io::Result<Tally> {
-    let bar = texts::find(line, 0, texts::BAR);
-    if bar < line.len() {
-        text(out, &line[0..bar])?;
-        return Ok(tally.count(trial(out, &line[bar..])?));
+// The table or the file of the numbers, which begin with their sign.
+pub fn trial(out: &mut impl Write, alloc: Global, numbers: &[u8]) -> io::Result<bool> {
+    if numbers.first() == Some(&b'<') {
+        file_trial(out, alloc, numbers)
+    } else {
+        table_trial(out, numbers)
     }
-    let file = texts::find(line, 0, b'<');
-    text(out, &line[0..file])?;
-    if file == line.len() {
-        text(out, b"\n")?;
-        return Ok(tally);
-    }
-    let refusal = texts::find(line, file, b'=');
-    if refusal < line.len() {
-        return Ok(tally.count(file_trial(out, &line[file..refusal], &line[refusal..], true)?));
-    }
-    let again = texts::find(line, file, b'>');
-    Ok(tally.count(file_trial(out, &line[file..again], &line[again..], false)?))
 }

@@ -1,8 +1,8 @@
 // One view through both: DISTINCT as the store has it, and the definitions.
-use crate::rule::kept;
+use crate::rule;
 use distinct::Answer;
-use families::has;
-use show::{Tally, say, text};
+use families::{EVERY, family, has, marked, size};
+use show::{Names, OneOf, Tally, spaced};
 use std::io;
 use std::io::Write;
 
@@ -15,98 +15,70 @@ const LENT: usize = 99;
 // How many views that differ are shown.
 const SHOWN: usize = 5;
 
-// How many positions were answered; a refusal, which none of these views earns, counts as more than there are.
-fn answered(answer: Answer) -> usize {
-    match answer {
+// How many rows are kept, and the lent list after the call: the kept positions in view order, and after them what stood there.
+#[derive(Clone, Copy, PartialEq, Eq)]
+struct Listed {
+    kept: usize,
+    list: [usize; PLACES],
+}
+
+// What the store answers. A refusal, which none of these views earns, counts as more rows than there are.
+fn by_store(d: usize, view: &[u64]) -> Listed {
+    let mut list = [LENT; PLACES];
+    let kept = match distinct::ask(d, view, &mut list) {
         Answer::Kept(n) => n,
         Answer::Refused(_) => LENT,
-    }
+    };
+    Listed { kept, list }
 }
 
-// The lent list as it should be: the marked positions in view order, and after them what stood there.
-fn expected(marks: u64) -> [usize; PLACES] {
+// What the rule gives.
+fn by_definition(view: &[u64]) -> Listed {
+    let marks = rule::kept(view);
     let mut list = [LENT; PLACES];
-    let mut filled: usize = 0;
-    let mut next: usize = 0;
-    while next < PLACES {
-        let i = next;
-        next += 1;
-        if has(marks, i) {
-            list[filled] = i;
-            filled += 1;
-        }
+    for (place, i) in list.iter_mut().zip((0..PLACES).filter(|&i| has(marks, i))) {
+        *place = i;
     }
-    list
+    Listed {
+        kept: size(marks),
+        list,
+    }
 }
 
-// Both lists hold the same in every place.
-fn same(a: &[usize; PLACES], b: &[usize; PLACES]) -> bool {
-    let mut next: usize = 0;
-    while next < PLACES {
-        let i = next;
-        next += 1;
-        if a[i] != b[i] {
-            return false;
-        }
-    }
-    true
-}
-
-// The answer is the rule's, to the last place of the list; no sublist with the view's family is shorter; and the rows listed have that family.
-fn agrees(view: &[u64], n: usize, list: &[usize; PLACES]) -> bool {
-    let rule = kept(view);
-    if n != families::size(rule) {
-        return false;
-    }
-    let wanted = expected(rule);
-    if !same(list, &wanted) {
-        return false;
-    }
-    if n != families::fewest(view) {
-        return false;
-    }
-    families::family(view, families::marked(list, n)) == families::family(view, families::EVERY)
+// The rows listed have the view's family, and no sublist that has it is shorter.
+fn shortest(view: &[u64], listed: &Listed) -> bool {
+    listed.kept == families::fewest(view)
+        && family(view, marked(&listed.list, listed.kept)) == family(view, EVERY)
 }
 
 // A view on which the two differ: its rows and both answers.
 fn show_difference(
     out: &mut impl Write,
     view: &[u64],
-    n: usize,
-    list: &[usize; PLACES],
+    store: &Listed,
+    rule: &Listed,
 ) -> io::Result<()> {
-    let rule = kept(view);
-    let wanted = expected(rule);
-    text(out, b"DIFFERENT on")?;
-    show::rows(out, view)?;
-    say(
+    write!(out, "DIFFERENT on")?;
+    let names = Names::Letters;
+    spaced(out, view.iter().map(|&set| OneOf { names, set }))?;
+    write!(out, "\n  the store answers {}, and its list is", store.kept)?;
+    spaced(out, store.list.iter())?;
+    write!(out, "\n  by definition it is {}, and the list", rule.kept)?;
+    spaced(out, rule.list.iter())?;
+    writeln!(
         out,
-        b"\n  the store answers #, and its list is",
-        &[n as u64],
-    )?;
-    show::numbers(out, list)?;
-    say(
-        out,
-        b"\n  by definition it is #, and the list",
-        &[families::size(rule) as u64],
-    )?;
-    show::numbers(out, &wanted)?;
-    say(
-        out,
-        b"\n  the fewest rows that will do are #\n",
-        &[families::fewest(view) as u64],
+        "\n  the fewest rows that will do are {}",
+        families::fewest(view)
     )
 }
 
-// Compares on one view. The first few on which the two differ are shown.
+// Compares on one view, to the last place of the list. The first few on which the two differ are shown.
 pub fn compare(out: &mut impl Write, tally: Tally, d: usize, view: &[u64]) -> io::Result<Tally> {
-    let mut list = [LENT; PLACES];
-    let n = answered(distinct::ask(d, view, &mut list));
-    if agrees(view, n, &list) {
-        return Ok(tally.count(true));
+    let store = by_store(d, view);
+    let rule = by_definition(view);
+    let agrees = store == rule && shortest(view, &store);
+    if !agrees && tally.differ < SHOWN {
+        show_difference(out, view, &store, &rule)?;
     }
-    if tally.differ < SHOWN {
-        show_difference(out, view, n, &list)?;
-    }
-    Ok(tally.count(false))
+    Ok(tally.count(agrees))
 }

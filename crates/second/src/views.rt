@@ -1,15 +1,7 @@
 // Small views to compare on, by number.
 ghost use Rattle.std.specs.Prelude.{◌<◌};
 
-// The longest view.
-pub const MOST: usize = 7;
-
-// A view: its first `rows` rows.
-#[derive(Drop)]
-pub struct View {
-    pub row: [u64; MOST],
-    pub rows: usize,
-}
+use std::alloc::{AllocError, Global};
 
 // How many rows a column of d values can have, for d from 1 to 5: the non-empty sets.
 fn row_kinds(d: usize) -> u64
@@ -24,29 +16,21 @@ fn row_kinds(d: usize) -> u64
     }
 }
 
-// The row that a number stands for, which counts round and round through the kinds.
-fn row_of(number: u64, kinds: u64) -> u64
-    requires { 0 < kinds }
-{
-    1 + number % kinds
-}
-
 // The view of a number: its digits are the rows, written with as many digits as there are kinds of rows and with no zero, so that each number has
 // its own view, the longer ones after all shorter ones. Where it has more digits, the first `most` are taken.
-pub fn spelt(number: u64, d: usize, most: usize) -> View {
+pub fn spelt(alloc: Global, number: u64, d: usize, most: usize) -> Result<Vec<u64>, AllocError> {
     let kinds = row_kinds(d);
-    let mut row = [0u64; MOST];
+    let mut view = Vec::new(alloc);
     let mut left = number;
-    let mut next: usize = 0;
-    while next < MOST {
-        if left == 0 || most <= next {
-            return View { row, rows: next };
+    for _ in 0..most {
+        if left == 0 {
+            break;
         }
-        row[next] = row_of(left - 1, kinds);
+        // Numbers count round and round through the kinds of rows.
+        view.push(1 + (left - 1) % kinds)?;
         left = (left - 1) / kinds;
-        next += 1;
     }
-    View { row, rows: next }
+    Ok(view)
 }
 
 // The next number of a fixed sequence that looks random: Marsaglia's xorshift with 13, 7 and 17.

@@ -1,80 +1,106 @@
 // Rows and families by the names of their values.
-use crate::text;
-use crate::texts::say_line;
-use std::io;
 use std::io::Write;
+use std::{fmt, io};
 
 // What the values of a column are called: a, b, c and so on, or the salaries of the paper's introduction.
-#[derive(Clone, Copy)]
+#[derive(Clone, Copy, PartialEq, Eq)]
 pub enum Names {
     Letters,
     Salaries,
 }
 
 // A value by its name; those after the last by number.
-fn value(out: &mut impl Write, names: Names, v: u64) -> io::Result<()> {
-    match names {
-        Names::Letters => say_line(
-            out,
-            b"a\nb\nc\nd\ne\nf\ng\nh\ni\nj\nk\nl\nm\nn\no\np\nq\nr\ns\nt\nu\nv\nw\nx\ny\nz\n#",
-            v,
-            &[v],
-        ),
-        Names::Salaries => say_line(out, b"20k\n30k\n35k\n#", v, &[v]),
+#[derive(Clone, Copy)]
+struct Value {
+    names: Names,
+    value: usize,
+}
+
+impl fmt::Display for Value {
+    fn fmt<W: fmt::Write>(&self, f: &mut fmt::Formatter<W>) -> fmt::Result {
+        match (self.names, self.value) {
+            (Names::Letters, v) if v < 26 => f.write_char(char::from(b'a' + v as u8)),
+            (Names::Salaries, 0) => f.write_str("20k"),
+            (Names::Salaries, 1) => f.write_str("30k"),
+            (Names::Salaries, 2) => f.write_str("35k"),
+            (_, v) => write!(f, "{v}"),
+        }
     }
 }
 
-// Words that are said only here, as those between two things of a list.
-fn text_where(out: &mut impl Write, here: bool, words: &[u8]) -> io::Result<()> {
-    if here {
-        text(out, words)?;
+// The members of a set, each as it is shown, with words between.
+fn joined<W: fmt::Write, T: fmt::Display + Drop, F: Fn(usize) -> T>(
+    f: &mut fmt::Formatter<W>,
+    set: u64,
+    between: &str,
+    shown: F,
+) -> fmt::Result
+    requires { F.IsAlwaysCallable shown }
+{
+    for (nth, member) in (0..64).filter(|&v| families::has(set, v)).enumerate() {
+        if nth != 0 {
+            f.write_str(between)?;
+        }
+        write!(f, "{}", shown(member))?;
     }
     Ok(())
 }
 
 // The names of a set's values, with commas between.
-fn values(out: &mut impl Write, names: Names, set: u64) -> io::Result<()> {
-    let mut started = false;
-    let mut next: usize = 0;
-    while next < 64 {
-        let v = next;
-        next += 1;
-        if families::has(set, v) {
-            text_where(out, started, b", ")?;
-            started = true;
-            value(out, names, v as u64)?;
-        }
-    }
-    Ok(())
+fn values<W: fmt::Write>(f: &mut fmt::Formatter<W>, names: Names, set: u64) -> fmt::Result {
+    joined(f, set, ", ", |value| Value { names, value })
 }
 
 // A row in the paper's brackets: one of these values.
+#[derive(Clone, Copy)]
+pub struct OneOf {
+    pub names: Names,
+    pub set: u64,
+}
+
+impl fmt::Display for OneOf {
+    fn fmt<W: fmt::Write>(&self, f: &mut fmt::Formatter<W>) -> fmt::Result {
+        f.write_str("[")?;
+        values(f, self.names, self.set)?;
+        f.write_str("]")
+    }
+}
+
 pub fn row(out: &mut impl Write, names: Names, set: u64) -> io::Result<()> {
-    text(out, b"[")?;
-    values(out, names, set)?;
-    text(out, b"]")
+    write!(out, "{}", OneOf { names, set })
 }
 
 // A set in braces: all of these values.
-fn braces(out: &mut impl Write, names: Names, set: u64) -> io::Result<()> {
-    text(out, b"{")?;
-    values(out, names, set)?;
-    text(out, b"}")
+#[derive(Clone, Copy)]
+struct AllOf {
+    names: Names,
+    set: u64,
+}
+
+impl fmt::Display for AllOf {
+    fn fmt<W: fmt::Write>(&self, f: &mut fmt::Formatter<W>) -> fmt::Result {
+        f.write_str("{")?;
+        values(f, self.names, self.set)?;
+        f.write_str("}")
+    }
 }
 
 // A family: its sets, in the order of their numbers.
-pub fn family(out: &mut impl Write, names: Names, family: u64) -> io::Result<()> {
-    text_where(out, family == 0, b"none")?;
-    let mut started = false;
-    let mut next: usize = 0;
-    while next < 64 {
-        let set = next;
-        next += 1;
-        if families::has(family, set) {
-            text_where(out, started, b" ")?;
-            started = true;
-            braces(out, names, set as u64)?;
+#[derive(Clone, Copy, PartialEq, Eq)]
+pub struct Family {
+    pub names: Names,
+    pub family: u64,
+}
+
+impl fmt::Display for Family {
+    fn fmt<W: fmt::Write>(&self, f: &mut fmt::Formatter<W>) -> fmt::Result {
+        let names = self.names;
+        if self.family == 0 {
+            return f.write_str("none");
         }
+        joined(f, self.family, " ", |set| {
+            let set = set as u64;
+            AllOf { names, set }
+        })
     }
-    Ok(())
 }

@@ -1,9 +1,0 @@
--- `second::rank::largest` meets its contract. The counter stays within the 64 sets. Assumes nothing.
-use Rattle.std.proofs.Common.{◌≤◌, ◌-◌}
-use Rattle.second.proofs.rank.largest.Given as goal
-
-abbrev pub invariant-loop-next : goal.invariant-loop-next
-invariant-loop-next l = l.next ≤ 64
-
-abbrev pub decreases-loop-next : goal.decreases-loop-next
-decreases-loop-next l = 64 - l.next

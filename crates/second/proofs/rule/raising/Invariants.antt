@@ -1,9 +1,0 @@
--- `second::rule::raising` meets its contract. The counter stays within the view. Assumes nothing.
-use Rattle.std.proofs.Common.{◌≤◌, ◌-◌, length}
-use Rattle.second.proofs.rule.raising.Given as goal
-
-abbrev pub invariant-loop-next : goal.invariant-loop-next
-invariant-loop-next l = l.next ≤ length l.view
-
-abbrev pub decreases-loop-next : goal.decreases-loop-next
-decreases-loop-next l = length l.view - l.next

@@ -1,9 +1,0 @@
--- `show::lists::positions` meets its contract. The counter stays within the 64 positions. Assumes nothing.
-use Rattle.std.proofs.Common.{◌≤◌, ◌-◌}
-use Rattle.show.proofs.lists.positions.Given as goal
-
-abbrev pub invariant-loop-next : goal.invariant-loop-next
-invariant-loop-next g l = l.next ≤ 64
-
-abbrev pub decreases-loop-next : goal.decreases-loop-next
-decreases-loop-next g l = 64 - l.next
