@@ -13,7 +13,7 @@ pub mod sound; // sound.rt: whether a sheet is sound
 // `rows` is the table's row count T. Desk k's marks are `WORDS` words: table row n is hidden where bit n % 64 of their word n / 64 is set.
 // The first `used` places hold the inserted rows, in order of insertion.
 #[repr(C)]
-#[derive(Clone, Copy)]
+#[derive(Clone, Copy, PartialEq, Eq)]
 pub struct Sheet {
     pub d: usize,
     pub rows: usize,
