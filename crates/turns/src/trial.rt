@@ -31,14 +31,12 @@ impl<'a> Trial<'a> {
     fn judged(&self, handed: Handed, list: &[usize; PLENTY]) -> Result<Handed, Handed> {
         let done = handed.told.refusal == 0;
         let kind = self.turn.kind;
-        let listed = lists::read(
-            list,
-            if done && kind == Kind::Distinct {
-                handed.told.first
-            } else {
-                0
-            },
-        );
+        let written = if done && kind == Kind::Distinct {
+            handed.told.first
+        } else {
+            0
+        };
+        let listed = lists::read(list, written);
         let told = Told {
             kept: listed.unwrap_or(0),
             ..handed.told
