@@ -6,12 +6,11 @@ mod drawn; // drawn.rt: a lesson of calls that nobody has thought out
 use std::io;
 use std::io::{BufWriter, Write};
 
-// Each turn, and what the request says that it must be told, is in `stdin`: crates/turns/src/script.rt says how a line is read.
+// Each turn, and what the request says that it must be told, is in `stdin`: crates/turns/src/lines.rt says how a line is read.
 fn main(rt: HostRuntime) -> io::Result<()> {
     let mut out = BufWriter::new(rt.alloc(), io::writer(&rt))?;
     let score = turns::play(&mut out, &rt, rt.alloc())?;
-    let told = score.told;
-    let tally = drawn::play(&mut out, told)?;
+    let tally = drawn::play(&mut out, rt.alloc(), score.told)?;
     tally.conclude(&mut out)?;
     out.flush()
 }

@@ -1,7 +1,6 @@
 // One example: its rows, those that DISTINCT keeps, and the families of both.
 use crate::compare::compare;
 use crate::rows::Rows;
-use distinct::Answer;
 use families::{EVERY, has};
 use show::{Columns, Family, Names, OneOf, Tally};
 use std::alloc::{AllocError, Global};
@@ -22,10 +21,8 @@ const ROWS: usize = 4;
 // The marks of the rows that DISTINCT keeps; none where it refuses.
 fn kept(d: usize, view: &[u64]) -> u64 {
     let mut list = [0usize; 8];
-    match distinct::ask(d, view, &mut list) {
-        Answer::Kept(n) => families::marked(&list, n),
-        Answer::Refused(_) => 0,
-    }
+    let n = distinct::ask(d, view, &mut list).unwrap_or(0);
+    families::marked(&list, n)
 }
 
 impl Example {

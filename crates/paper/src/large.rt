@@ -1,6 +1,5 @@
 // The request's two large views, too many choices to list: what is kept is compared with the request alone.
 use crate::compare::compare;
-use distinct::Answer;
 use show::Tally;
 use std::io;
 use std::io::Write;
@@ -26,10 +25,7 @@ pub fn keeps_first(
     let view = rows.get(..many).unwrap_or(&[]);
     // 999 is no position here, so that a place which was not written ends the order.
     let mut list = [999usize; 320];
-    let kept = match distinct::ask(d, view, &mut list) {
-        Answer::Kept(n) => n,
-        Answer::Refused(_) => 0,
-    };
+    let kept = distinct::ask(d, view, &mut list).unwrap_or(0);
     write!(out, "\n  rows kept:                ")?;
     let counted = compare(out, kept as u64, wanted)?;
     write!(out, "  in order from position 0: ")?;

@@ -1,5 +1,6 @@
 // One file through `read` and through the reader.
-use files::{Lesson, NextRow};
+use refusals::Refusal;
+use sets::Row;
 use std::io::Write;
 use std::{fmt, io};
 
@@ -24,16 +25,13 @@ impl fmt::Display for Header {
 // Of a file refusal 26 is of a row.
 pub type Said = show::Said<Header, 26>;
 
-fn heard(lesson: Lesson) -> Said {
+fn heard(lesson: Result<(usize, usize), Refusal>) -> Said {
     match lesson {
-        Lesson::Read(d, rows) => Said::accepted(Header {
+        Ok((d, rows)) => Said::accepted(Header {
             d: d as u64,
             rows: rows as u64,
         }),
-        Lesson::Refused(why) => Said::refused(
-            refusals::number(why) as u64,
-            refusals::row(why) as u64,
-        ),
+        Err(why) => Said::refused(why.number() as u64, why.row() as u64),
     }
 }
 
@@ -43,27 +41,17 @@ fn list_right(list: &[u64], refusal: u64, cells: &[u64]) -> bool {
     list.iter().enumerate().all(|(i, &cell)| cell == written.get(i).copied().unwrap_or(BEFORE))
 }
 
-fn is_cell(row: NextRow, cell: u64) -> bool {
-    match row {
-        NextRow::Cell(row) => u64::from(row) == cell,
-        NextRow::NoMore => false,
-    }
-}
-
 // The reader has no more rows there, and its cursor stays.
 fn no_more(file: &[u8], at: usize) -> bool {
     let step = files::take(file, at);
-    match step.row {
-        NextRow::Cell(_) => false,
-        NextRow::NoMore => step.next == at,
-    }
+    step.row.is_none() && step.next == at
 }
 
 // The reader hands out these cells in turn, and then says that there are no more, and says so again.
 fn turns_right(file: &[u8], cells: &[u64]) -> bool {
     cells.iter().enumerate().all(|(i, &cell)| {
         let step = files::take(file, i);
-        is_cell(step.row, cell) && step.next == i + 1
+        step.row == Some(Row::from(cell)) && step.next == i + 1
     }) && no_more(file, cells.len())
         && no_more(file, cells.len())
 }

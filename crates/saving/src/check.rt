@@ -1,6 +1,6 @@
 // One table through `write`, and what was written through `read`.
 use crate::wanted::{BEFORE, Length, Said, Wanted};
-use files::{Lesson, Saved};
+use refusals::Refusal;
 use std::io;
 use std::io::Write;
 
@@ -20,13 +20,10 @@ pub struct Table<'a> {
     pub rows: &'a [u64],
 }
 
-fn heard(saved: Saved) -> Said {
+fn heard(saved: Result<usize, Refusal>) -> Said {
     match saved {
-        Saved::Length(n) => Said::accepted(Length(n as u64)),
-        Saved::Refused(why) => Said::refused(
-            refusals::number(why) as u64,
-            refusals::row(why) as u64,
-        ),
+        Ok(n) => Said::accepted(Length(n as u64)),
+        Err(why) => Said::refused(why.number() as u64, why.row() as u64),
     }
 }
 
@@ -34,11 +31,11 @@ fn heard(saved: Saved) -> Said {
 fn reads_as(file: &[u8], table: Table<'_>) -> bool {
     let mut list = [0u64; ROWS];
     match files::read(file, &mut list) {
-        Lesson::Read(d, rows) => {
+        Ok((d, rows)) => {
             let rows = list.get(..rows).unwrap_or(&[]);
             table == Table { d, rows }
         }
-        Lesson::Refused(_) => false,
+        Err(_) => false,
     }
 }
 
@@ -46,8 +43,8 @@ fn reads_as(file: &[u8], table: Table<'_>) -> bool {
 fn refusal_of(file: &[u8]) -> u64 {
     let mut list = [0u64; ROWS];
     match files::read(file, &mut list) {
-        Lesson::Read(_, _) => 0,
-        Lesson::Refused(why) => refusals::number(why) as u64,
+        Ok(_) => 0,
+        Err(why) => why.number() as u64,
     }
 }
 
@@ -81,12 +78,12 @@ pub fn check(
 pub fn check_file(out: &mut impl Write, file: &[u8], bytes: &[u64]) -> io::Result<bool> {
     let mut list = [0u64; ROWS];
     match files::read(file, &mut list) {
-        Lesson::Read(d, rows) => {
+        Ok((d, rows)) => {
             let said = Said::accepted(Length(bytes.len() as u64));
             let rows = list.get(..rows).unwrap_or(&[]);
             check(out, Table { d, rows }, ROOM, Wanted { said, bytes })
         }
-        Lesson::Refused(_) => {
+        Err(_) => {
             writeln!(out, "DIFFERS: not read")?;
             Ok(false)
         }

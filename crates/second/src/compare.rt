@@ -1,6 +1,5 @@
 // One view through both: DISTINCT as the store has it, and the definitions.
 use crate::rule;
-use distinct::Answer;
 use families::{EVERY, family, has, marked, size};
 use show::{Names, OneOf, Tally, spaced};
 use std::io;
@@ -25,10 +24,7 @@ struct Listed {
 // What the store answers. A refusal, which none of these views earns, counts as more rows than there are.
 fn by_store(d: usize, view: &[u64]) -> Listed {
     let mut list = [LENT; PLACES];
-    let kept = match distinct::ask(d, view, &mut list) {
-        Answer::Kept(n) => n,
-        Answer::Refused(_) => LENT,
-    };
+    let kept = distinct::ask(d, view, &mut list).unwrap_or(LENT);
     Listed { kept, list }
 }
 

@@ -1,172 +1,132 @@
 // A script from its first line to its last.
-ghost use Rattle.std.specs.Prelude.{◌<◌, length};
-
-use crate::script::{NO_QUESTIONS, Plain, QUESTION, QUESTIONS, Turn};
-use crate::trial::once;
-use crate::{doors, neighbour, script, words};
+use crate::kind::Kind;
+use crate::lines::{Line, Lines};
+use crate::neighbour::Neighbour;
+use crate::table::Table;
+use crate::told::Told;
+use crate::trial::Trial;
+use crate::turn::Turn;
+use crate::{neighbour, words};
 use sheet::Sheet;
 use show::texts::BAR;
-use show::{Tally, say, text, texts};
+use show::{Tally, texts};
 use std::alloc::Global;
 use std::io;
 use std::io::Write;
 
-// How the class stands: its sheet, how often a desk was told what it must be, and how often the neighbour was; and where the lines of the lent
-// table and of the neighbour's questions begin.
-#[derive(Clone, Copy)]
-struct Class {
-    sheet: Sheet,
-    told: Tally,
-    looks: Tally,
-    table: usize,
-    questions: usize,
-}
-
 // How often all was as it must be, in the turns and in the neighbour's looks.
-#[derive(Drop)]
+#[derive(Clone, Copy)]
 pub struct Score {
     pub told: Tally,
     pub looks: Tally,
 }
 
-// The turn as it is played for the i-th time.
-fn at_time(turn: Turn, i: usize) -> Turn {
-    let mut now = turn;
-    if turn.kind == doors::EVERY {
-        now.kind = (i % 7) as u64;
-    }
-    if turn.each != 0 {
-        now.desk = turn.desk.wrapping_add(i / turn.each);
-    }
-    now
+// How the class stands: its sheet, the table that is lent, the neighbour while she has questions, and the score.
+#[derive(Drop)]
+struct Class {
+    sheet: Sheet,
+    table: Table,
+    neighbour: Option<Neighbour>,
+    score: Score,
 }
 
 // What came instead of what must.
-fn complain(out: &mut impl Write, kind: u64, told: Plain) -> io::Result<()> {
-    text(out, b" - DIFFERS: told ")?;
-    words::tell(out, kind, told)?;
-    text(out, b", or the list or the sheet is not as it must be")
-}
-
-// A turn that is played once.
-fn play_once(out: &mut impl Write, class: Class, script: &[u8], turn: Turn) -> io::Result<Class> {
-    let table = script::table_at(script, class.table);
-    let rows = table.rows;
-    let sheet = class.sheet;
-    let outcome = once(show::part(&rows, 0, table.many), table.d, sheet, turn);
-    let came = outcome.told;
-    let told = class.told;
-    let counted = told.count(outcome.right);
-    let mut next = class;
-    next.told = counted;
-    if !outcome.right {
-        complain(out, turn.kind, came)?;
-    }
-    if came.refusal == 0 && turn.spot == 0 {
-        let after = outcome.sheet;
-        next.sheet = after;
-    }
-    Ok(next)
-}
-
-// The neighbour looks, once she has questions.
-fn look(class: Class, script: &[u8]) -> Class {
-    let mut next = class;
-    if class.questions < script.len() {
-        let sheet = class.sheet;
-        let looks = class.looks;
-        let looked = looks.count(neighbour::asks(script, class.questions, sheet));
-        next.looks = looked;
-    }
-    next
-}
-
-// A turn that is played as often as it says, and the neighbour who looks after each time.
-fn act(out: &mut impl Write, class: Class, script: &[u8], turn: Turn) -> io::Result<Class> {
-    let mut class = class;
-    let mut next: usize = 0;
-    while next < turn.times {
-        let now = at_time(turn, next);
-        next += 1;
-        class = look(play_once(out, class, script, now)?, script);
-    }
-    Ok(class)
+fn complain(out: &mut impl Write, kind: Kind, came: Told) -> io::Result<()> {
+    write!(out, " - DIFFERS: told ")?;
+    words::tell(out, kind, came)?;
+    write!(out, ", or the list or the sheet is not as it must be")
 }
 
 // What must be told, and how often.
 fn announce(out: &mut impl Write, turn: Turn) -> io::Result<()> {
-    let must = turn.must;
-    words::tell(out, turn.kind, must)?;
+    words::tell(out, turn.kind, turn.must)?;
     if 1 < turn.times {
-        say(out, b", # times", &[turn.times as u64])?;
+        write!(out, ", {} times", turn.times)?;
     }
-    text(out, b".")
+    write!(out, ".")
 }
 
-// What the neighbour says, once she has questions.
-fn hear(out: &mut impl Write, class: Class, script: &[u8]) -> io::Result<()> {
-    let looks = class.looks;
-    if class.questions < script.len() {
-        neighbour::says(out, looks)?;
+impl Class {
+    // A turn that is played once.
+    fn play_once(&mut self, out: &mut impl Write, turn: Turn) -> io::Result<()> {
+        let outcome = Trial::new(&self.table, self.sheet, turn).at_every_door();
+        self.score.told = self.score.told.count(outcome.is_ok());
+        let handed = match outcome {
+            Ok(handed) => handed,
+            Err(handed) => {
+                complain(out, turn.kind, handed.told)?;
+                handed
+            }
+        };
+        if handed.told.refusal == 0 && turn.damage.is_none() {
+            self.sheet = handed.sheet;
+        }
+        Ok(())
     }
-    Ok(())
-}
 
-// A line's words, and its turn where it has one.
-fn read_out(out: &mut impl Write, class: Class, script: &[u8], line: &[u8]) -> io::Result<Class> {
-    let bar = texts::find(line, 0, BAR);
-    text(out, &line[0..bar])?;
-    if bar == line.len() {
-        return Ok(class);
-    }
-    let turn = script::read_turn(&line[bar..]);
-    announce(out, turn)?;
-    let after = act(out, class, script, turn)?;
-    hear(out, after, script)?;
-    Ok(after)
-}
-
-// The line at a place of the script.
-fn line_at(out: &mut impl Write, class: Class, script: &[u8], at: usize) -> io::Result<Class>
-    requires { at < length script.now }
-{
-    let mark = script[at];
-    let mut next = class;
-    match mark {
-        BAR => next.table = at,
-        QUESTIONS => next.questions = at,
-        NO_QUESTIONS => next.questions = script.len(),
-        QUESTION => {}
-        _ => {
-            next = read_out(out, class, script, script::line_at(script, at))?;
-            text(out, b"\n")?;
+    // The neighbour looks, once she has questions.
+    fn look(&mut self) {
+        if let Some(neighbour) = &self.neighbour {
+            let same = neighbour.is_told_the_same(self.sheet);
+            self.score.looks = self.score.looks.count(same);
         }
     }
-    Ok(next)
-}
 
-// All lines of the script.
-fn play_lines(out: &mut impl Write, script: &[u8]) -> io::Result<Score> {
-    let mut class = Class {
-        sheet: Sheet::fresh(0, 0, 0),
-        told: Tally::fresh(),
-        looks: Tally::fresh(),
-        table: script.len(),
-        questions: script.len(),
-    };
-    let mut next: usize = 0;
-    while next < script.len() {
-        let at = next;
-        next = script::after(script, at);
-        class = line_at(out, class, script, at)?;
+    // A turn that is played as often as it says, and the neighbour who looks after each time.
+    fn play(&mut self, out: &mut impl Write, turn: Turn) -> io::Result<()> {
+        for i in 0..turn.times {
+            self.play_once(out, turn.at_time(i))?;
+            self.look();
+        }
+        Ok(())
     }
-    let told = class.told;
-    let looks = class.looks;
-    Ok(Score { told, looks })
+
+    // A line's words, and its turn where it has one.
+    fn read_out(&mut self, out: &mut impl Write, line: &[u8]) -> io::Result<()> {
+        let bar = texts::find(line, 0, BAR);
+        out.write_all(&line[..bar])?;
+        if bar < line.len() {
+            let turn = Turn::read(&line[bar..]);
+            announce(out, turn)?;
+            self.play(out, turn)?;
+            if self.neighbour.is_some() {
+                neighbour::says(out, self.score.looks)?;
+            }
+        }
+        writeln!(out)
+    }
+
+    fn hear(&mut self, out: &mut impl Write, alloc: Global, line: Line) -> io::Result<()> {
+        match line {
+            Line::Table(text) => self.table = Table::read(alloc, text)?,
+            Line::Neighbour(text, after) => {
+                self.neighbour = Some(Neighbour::read(alloc, text, after)?);
+            }
+            Line::Question(_) => {}
+            Line::NoQuestions => self.neighbour = None,
+            Line::Words(text) => self.read_out(out, text)?,
+        }
+        Ok(())
+    }
 }
 
 // The script on standard input.
 pub fn play(out: &mut impl Write, rt: &impl Input, alloc: Global) -> io::Result<Score> {
     let script = show::script(rt, alloc)?;
-    play_lines(out, &script)
+    let mut class = Class {
+        sheet: Sheet::fresh(0, 0, 0),
+        table: Table {
+            rows: Vec::new(alloc),
+            d: 0,
+        },
+        neighbour: None,
+        score: Score {
+            told: Tally::fresh(),
+            looks: Tally::fresh(),
+        },
+    };
+    for line in Lines::of(&script) {
+        class.hear(out, alloc, line)?;
+    }
+    Ok(class.score)
 }

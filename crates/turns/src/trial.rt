@@ -1,96 +1,72 @@
 // One turn through every door, compared with what must be told.
-ghost use Rattle.std.specs.Prelude.{◌≤◌};
-
-use crate::damage::spoilt;
-use crate::doors::Handed;
+use crate::doors::{Door, Handed};
+use crate::kind::Kind;
+use crate::lists;
 use crate::lists::{LENT, PLENTY};
-use crate::script::{Plain, Turn};
-use crate::{doors, lists, sheets};
+use crate::table::Table;
+use crate::told::Told;
+use crate::turn::Turn;
 use sheet::Sheet;
 
-// What came of a turn, whether that is right, and the sheet handed back.
-#[derive(Drop)]
-pub struct Outcome {
-    pub told: Plain,
-    pub right: bool,
-    pub sheet: Sheet,
+// A turn, and the table and the sheet that it is played on.
+#[derive(Clone, Copy)]
+pub struct Trial<'a> {
+    pub(crate) table: &'a Table,
+    pub(crate) sheet: Sheet,
+    pub(crate) turn: Turn,
 }
 
-fn same(a: Plain, b: Plain) -> bool {
-    a.refusal == b.refusal && a.first == b.first && a.second == b.second && a.kept == b.kept
-}
-
-// How many places are lent: as many as asked for, where there are so many.
-fn lent(places: usize) -> usize
-    ensures { result ≤ 320 }
-{
-    if places < PLENTY { places } else { PLENTY }
-}
-
-// How many places of the list are written.
-fn written(kind: u64, told: Plain) -> u64 {
-    if told.refusal == 0 && kind == doors::DISTINCT {
-        told.first
-    } else {
-        0
+impl<'a> Trial<'a> {
+    // The sheet is damaged as the turn says. A begin is handed none: where it is refused, a sheet of zeros comes back.
+    pub fn new(table: &'a Table, sheet: Sheet, turn: Turn) -> Trial<'a> {
+        let sheet = match (turn.kind, turn.damage) {
+            (Kind::Begin, _) => Sheet::fresh(0, 0, 0),
+            (_, Some(damage)) => damage.done_to(sheet),
+            (_, None) => sheet,
+        };
+        Trial { table, sheet, turn }
     }
-}
 
-// A refusal, and every call that only asks, hands back the sheet that it was handed.
-fn may_change(kind: u64, told: Plain) -> bool {
-    told.refusal == 0 && (kind < doors::LOOK || kind == doors::BEGIN)
-}
-
-// What a door did is right where the numbers are those that must be told, and the list's later places and the sheet are as they may be.
-fn judged(sheet: Sheet, turn: Turn, handed: Handed, list: [usize; PLENTY]) -> Outcome {
-    let after = handed.sheet;
-    let mut told = handed.told;
-    let listed = lists::read(list, written(turn.kind, told));
-    told.kept = listed.kept;
-    let must = turn.must;
-    let stays = may_change(turn.kind, told) || sheets::same(sheet, after);
-    Outcome {
-        told,
-        right: listed.tidy && stays && same(told, must),
-        sheet: after,
+    // `Ok` where a door told what must be told, and left the list's later places and the sheet as they may be.
+    fn judged(&self, handed: Handed, list: &[usize; PLENTY]) -> Result<Handed, Handed> {
+        let done = handed.told.refusal == 0;
+        let kind = self.turn.kind;
+        let written = if done && kind == Kind::Distinct {
+            handed.told.first
+        } else {
+            0
+        };
+        let listed = lists::read(list, written);
+        let told = Told {
+            kept: listed.unwrap_or(0),
+            ..handed.told
+        };
+        let handed = Handed { told, ..handed };
+        let stays = done && kind.may_change() || handed.sheet == self.sheet;
+        if listed.is_some() && stays && told == self.turn.must {
+            Ok(handed)
+        } else {
+            Err(handed)
+        }
     }
-}
 
-// The turn through one door.
-pub fn at_door(door: usize, table: &[u64], d: usize, sheet: Sheet, turn: Turn) -> Outcome {
-    let mut list = [LENT; PLENTY];
-    let places = lent(turn.places);
-    let handed = doors::through(door, table, d, sheet, turn, &mut list[0..places]);
-    judged(sheet, turn, handed, list)
-}
-
-// The sheet that a turn is handed. A begin is handed none: where it is refused, a sheet of zeros comes back.
-fn given(sheet: Sheet, turn: Turn) -> Sheet {
-    if turn.kind == doors::BEGIN {
-        return Sheet::fresh(0, 0, 0);
+    // The turn through one door.
+    pub fn at_door(&self, door: Door) -> Result<Handed, Handed> {
+        let mut list = [LENT; PLENTY];
+        let places = self.turn.places.min(PLENTY);
+        let handed = door.play(self, &mut list[..places]);
+        self.judged(handed, &list)
     }
-    spoilt(sheet, turn.spot, turn.value)
-}
 
-// What came of a turn at two doors: the first, or what is not right at the other.
-fn agreed(one: Outcome, other: Outcome) -> Outcome {
-    let sheet = one.sheet;
-    let others = other.sheet;
-    let told = other.told;
-    if other.right && sheets::same(sheet, others) {
-        return one;
+    // The turn through every door: what came of it at one where it is not right, or else at the first.
+    pub fn at_every_door(&self) -> Result<Handed, Handed> {
+        let first = self.at_door(Door::ByValue)?;
+        for door in [Door::InPlace, Door::ByNumbers] {
+            let other = self.at_door(door)?;
+            if other.sheet != first.sheet {
+                return Err(other);
+            }
+        }
+        Ok(first)
     }
-    Outcome {
-        told,
-        right: false,
-        sheet: others,
-    }
-}
-
-// The turn through every door: what came of it at one where it is not right, or else at the first.
-pub fn once(table: &[u64], d: usize, sheet: Sheet, turn: Turn) -> Outcome {
-    let before = given(sheet, turn);
-    let first = at_door(doors::BY_VALUE, table, d, before, turn);
-    let second = agreed(first, at_door(doors::IN_PLACE, table, d, before, turn));
-    agreed(second, at_door(doors::BY_NUMBERS, table, d, before, turn))
 }

@@ -1,57 +1,65 @@
 // What is told, in words.
-use crate::doors::{COUNT, DISTINCT, LOOK};
-use crate::script::Plain;
-use show::{Names, say, text, texts};
+use crate::kind::Kind;
+use crate::told::Told;
+use show::Names;
 use std::io;
 use std::io::Write;
 
-// A refusal by its number, refusal 2 with its row, and why, as one would tell it to a pupil.
-fn tell_refusal(out: &mut impl Write, told: Plain) -> io::Result<()> {
-    texts::say_line(
-        out,
-        b"done
-refused with # (no table has that size)
-refused with # at row # (that is no row)
-refused with # (scribbles)
-refused with # (that is not today's table)
-refused with # (nobody sits there)
-refused with # (there is no such row)
-refused with # (it is hidden already)
-refused with # (that is no set of this column)
-refused with # (64 rows are enough for anybody)
-refused with # (every free place is promised)
-refused with # (the list is too short)
-refused with # (nobody sees that much)
-refused with # (a class has 1 to 32 desks)
-refused with #",
-        told.refusal,
-        &[told.refusal, told.first],
-    )
+// Why a call is refused, as one would tell it to a pupil.
+fn reason(refusal: u64) -> Option<&'static str> {
+    match refusal {
+        1 => Some("no table has that size"),
+        2 => Some("that is no row"),
+        3 => Some("scribbles"),
+        4 => Some("that is not today's table"),
+        5 => Some("nobody sits there"),
+        6 => Some("there is no such row"),
+        7 => Some("it is hidden already"),
+        8 => Some("that is no set of this column"),
+        9 => Some("64 rows are enough for anybody"),
+        10 => Some("every free place is promised"),
+        11 => Some("the list is too short"),
+        12 => Some("nobody sees that much"),
+        13 => Some("a class has 1 to 32 desks"),
+        _ => None,
+    }
+}
+
+// A refusal by its number, refusal 2 with its row, and why.
+fn tell_refusal(out: &mut impl Write, told: Told) -> io::Result<()> {
+    write!(out, "refused with {}", told.refusal)?;
+    if told.refusal == 2 {
+        write!(out, " at row {}", told.first)?;
+    }
+    match reason(told.refusal) {
+        Some(why) => write!(out, " ({why})"),
+        None => Ok(()),
+    }
 }
 
 // How many rows DISTINCT keeps, and where.
-fn tell_kept(out: &mut impl Write, told: Plain) -> io::Result<()> {
-    say(out, b"# kept", &[told.first])?;
+fn tell_kept(out: &mut impl Write, told: Told) -> io::Result<()> {
+    write!(out, "{} kept", told.first)?;
     if told.kept != 0 {
-        text(out, b", at")?;
+        write!(out, ", at")?;
         show::positions(out, told.kept)?;
     }
     Ok(())
 }
 
 // What a call of this kind is told.
-pub fn tell(out: &mut impl Write, kind: u64, told: Plain) -> io::Result<()> {
+pub fn tell(out: &mut impl Write, kind: Kind, told: Told) -> io::Result<()> {
     if told.refusal != 0 {
         return tell_refusal(out, told);
     }
     match kind {
-        LOOK => show::row(out, Names::Letters, told.first),
-        COUNT => say(
+        Kind::Look => show::row(out, Names::Letters, told.first),
+        Kind::Count => write!(
             out,
-            b"# rows in view, # of them own",
-            &[told.first, told.second],
+            "{} rows in view, {} of them own",
+            told.first, told.second
         ),
-        DISTINCT => tell_kept(out, told),
-        _ => text(out, b"done"),
+        Kind::Distinct => tell_kept(out, told),
+        _ => write!(out, "done"),
     }
 }
