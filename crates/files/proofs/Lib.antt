@@ -7,7 +7,6 @@
 -- `ByteLaws`: numbers in bytes fit a word, and are read as they were put. `RowLaws`: the first n rows.
 -- `CellLaws`: a cell as it is read. `Filling`: words whose front is filled.
 -- `FilesJudged`: a file by its parts, and by its cases. `ReadFiles`: what is known of a file that is judged.
--- `MadeReader`: what a reader owns that is made of a file and a cursor.
 -- `TableBytes`: how many bytes a table takes, and where a row's stand. `Saving`: bytes put into a buffer, part by part. `TablesSaved`: what is
 -- answered of a table once it is judged. `TablesRead`: what was read is a table that every call accepts.
 pub mod ReadExactlyWhen
@@ -26,7 +25,6 @@ pub mod CellLaws
 pub mod Filling
 pub mod FilesJudged
 pub mod ReadFiles
-pub mod MadeReader
 pub mod TableBytes
 pub mod Saving
 pub mod TablesSaved
