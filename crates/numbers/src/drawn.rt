@@ -69,7 +69,7 @@ impl Lesson {
             table,
             sheet: begun.sheet,
             told,
-            accepted: Tally::fresh(),
+            accepted: Tally::default(),
             sum: 0,
         })
     }

@@ -25,7 +25,7 @@ fn column(byte: u8, next: usize) -> usize {
 }
 
 // The numbers of a text, into the columns of a row; answers how far the row is filled.
-pub fn numbers(text: &[u8], row: &mut [u64]) -> usize {
+fn numbers(text: &[u8], row: &mut [u64]) -> usize {
     let mut value: u64 = 0;
     let mut at: usize = 0;
     let mut filled: usize = 0;

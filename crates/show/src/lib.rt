@@ -7,12 +7,10 @@ mod lists; // lists.rt: things in a line, each after a space
 mod names; // names.rt: rows and families in letters or salaries
 mod said; // said.rt: what an answer says, by plain numbers
 mod tally; // tally.rt: how many comparisons agree and differ
-pub mod texts; // texts.rt: words with numbers in them, as bytes
 
 pub use columns::Columns;
-pub use lines::{play, script, split_before};
-pub use lists::{part, positions, spaced};
-pub use names::{Family, Names, OneOf, row};
+pub use lines::{BAR, NEWLINE, play, script, split_before};
+pub use lists::{positions, spaced};
+pub use names::{Family, Names, OneOf};
 pub use said::{Said, conclude};
 pub use tally::Tally;
-pub use texts::{say, text};

@@ -2,10 +2,14 @@
 ghost use Rattle.std.specs.Prelude.{◌≡◌, ◌++◌, IfSome};
 
 use crate::Tally;
-use crate::texts::NEWLINE;
 use std::alloc::Global;
 use std::io;
 use std::io::{Read, Write};
+
+pub const NEWLINE: u8 = b'\n';
+
+// What stands between the words of a line and its numbers.
+pub const BAR: u8 = b'|';
 
 // How many bytes of a script are read; what comes after them is left.
 const SCRIPT: u64 = 65_536;

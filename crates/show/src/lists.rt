@@ -5,11 +5,6 @@ use std::fmt::Display;
 use std::io;
 use std::io::Write;
 
-// A list from one place to another; nothing where it has no such part.
-pub fn part(list: &[u64], from: usize, to: usize) -> &[u64] {
-    list.get(from..to).unwrap_or(&[])
-}
-
 // Each of some things.
 pub fn spaced<T: Display + Drop, I: Iterator<Item = T> + Drop>(
     out: &mut impl Write,

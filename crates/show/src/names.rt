@@ -1,6 +1,5 @@
 // Rows and families by the names of their values.
-use std::io::Write;
-use std::{fmt, io};
+use std::fmt;
 
 // What the values of a column are called: a, b, c and so on, or the salaries of the paper's introduction.
 #[derive(Clone, Copy, PartialEq, Eq)]
@@ -64,10 +63,6 @@ impl fmt::Display for OneOf {
         values(f, self.names, self.set)?;
         f.write_str("]")
     }
-}
-
-pub fn row(out: &mut impl Write, names: Names, set: u64) -> io::Result<()> {
-    write!(out, "{}", OneOf { names, set })
 }
 
 // A set in braces: all of these values.

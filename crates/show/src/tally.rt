@@ -10,11 +10,6 @@ pub struct Tally {
 }
 
 impl Tally {
-    // Nothing compared yet.
-    pub fn fresh() -> Tally {
-        Tally::default()
-    }
-
     // One comparison more, which agrees or differs. A count that is full stays so.
     pub fn count(self, agrees: bool) -> Tally {
         if agrees {

@@ -8,8 +8,7 @@ use crate::trial::Trial;
 use crate::turn::Turn;
 use crate::{neighbour, words};
 use sheet::Sheet;
-use show::texts::BAR;
-use show::{Tally, texts};
+use show::{BAR, Tally};
 use std::alloc::Global;
 use std::io;
 use std::io::Write;
@@ -83,15 +82,16 @@ impl Class {
 
     // A line's words, and its turn where it has one.
     fn read_out(&mut self, out: &mut impl Write, line: &[u8]) -> io::Result<()> {
-        let bar = texts::find(line, 0, BAR);
-        out.write_all(&line[..bar])?;
-        if bar < line.len() {
-            let turn = Turn::read(&line[bar..]);
-            announce(out, turn)?;
-            self.play(out, turn)?;
-            if self.neighbour.is_some() {
-                neighbour::says(out, self.score.looks)?;
-            }
+        let Some((words, numbers)) = show::split_before(line, BAR) else {
+            out.write_all(line)?;
+            return writeln!(out);
+        };
+        out.write_all(words)?;
+        let turn = Turn::read(numbers);
+        announce(out, turn)?;
+        self.play(out, turn)?;
+        if self.neighbour.is_some() {
+            neighbour::says(out, self.score.looks)?;
         }
         writeln!(out)
     }
@@ -121,8 +121,8 @@ pub fn play(out: &mut impl Write, rt: &impl Input, alloc: Global) -> io::Result<
         },
         neighbour: None,
         score: Score {
-            told: Tally::fresh(),
-            looks: Tally::fresh(),
+            told: Tally::default(),
+            looks: Tally::default(),
         },
     };
     for line in Lines::of(&script) {

@@ -6,7 +6,7 @@
 ghost use Rattle.std.specs.Prelude.{length};
 ghost use Rattle.std.specs.Iterator.{at_most};
 
-use show::texts::{BAR, NEWLINE};
+use show::{BAR, NEWLINE};
 
 #[derive(Clone, Copy)]
 pub enum Line<'a> {

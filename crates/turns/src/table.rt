@@ -1,6 +1,6 @@
 // A lent table.
 use sheet::Sheet;
-use show::texts;
+use show::Columns;
 use std::alloc::{AllocError, Global};
 
 // One row more than a table may have.
@@ -15,10 +15,9 @@ pub struct Table {
 impl Table {
     // The table of a line: how many rows, d, and the rows, of which the last stands for all that follow. One of more than `ROWS` rows has none.
     pub fn read(alloc: Global, line: &[u8]) -> Result<Table, AllocError> {
-        let mut listed = [0; 12];
-        let filled = texts::numbers(line, &mut listed);
-        let [many, d, ..] = listed;
-        let given = listed.get(2..filled).unwrap_or(&[]);
+        let listed = Columns::read(line, [0; 12]);
+        let [many, d, ..] = listed.row;
+        let given = listed.from_column(2);
         let last = given.last().copied().unwrap_or(0);
         let mut rows = Vec::from_slice(alloc, given)?;
         let many = many as usize;

@@ -9,7 +9,7 @@ use crate::kind::Kind;
 use crate::lists::PLENTY;
 use crate::told::Told;
 use sets::Row;
-use show::texts;
+use show::Columns;
 use store::{Call, Change, Question, Target};
 
 #[derive(Clone, Copy)]
@@ -27,8 +27,7 @@ pub struct Turn {
 impl Turn {
     // The turn of a text.
     pub fn read(text: &[u8]) -> Turn {
-        let mut row = [0, 0, 0, 0, 0, 0, 0, 0, 1, 0, PLENTY as u64, 0, 0];
-        texts::numbers(text, &mut row);
+        let usual = [0, 0, 0, 0, 0, 0, 0, 0, 1, 0, PLENTY as u64, 0, 0];
         let [
             kind,
             desk,
@@ -43,7 +42,7 @@ impl Turn {
             places,
             spot,
             value,
-        ] = row;
+        ] = Columns::read(text, usual).row;
         Turn {
             kind: Kind::from(kind),
             desk: desk as usize,

@@ -1,7 +1,7 @@
 // What is told, in words.
 use crate::kind::Kind;
 use crate::told::Told;
-use show::Names;
+use show::{Names, OneOf};
 use std::io;
 use std::io::Write;
 
@@ -53,7 +53,10 @@ pub fn tell(out: &mut impl Write, kind: Kind, told: Told) -> io::Result<()> {
         return tell_refusal(out, told);
     }
     match kind {
-        Kind::Look => show::row(out, Names::Letters, told.first),
+        Kind::Look => {
+            let names = Names::Letters;
+            write!(out, "{}", OneOf { names, set: told.first })
+        }
         Kind::Count => write!(
             out,
             "{} rows in view, {} of them own",
