@@ -1,4 +1,5 @@
 // The store for hosts in other languages: plain numbers and slices, and nothing that a host has to promise.
+// The two that take a sheet are built into `host_c`, so that it isn't copied once more.
 #![tactic(auto)]
 
 ghost use Rattle.std.specs.Prelude.{◌≡◌, length};
@@ -38,6 +39,7 @@ pub fn foliokettle_begin(table: &[u64], d: usize, desks: usize) -> Handed
 }
 
 // A desk calls, by the kind of the call and its argument. What is no call is refused by the largest number, and nothing changes.
+#[inline(always)]
 pub fn foliokettle_call(
     table: &[u64],
     d: usize,
@@ -63,6 +65,7 @@ pub fn foliokettle_call(
 }
 
 // The same for a host that keeps a single sheet: the sheet becomes the one that `foliokettle_call` hands back. (The form that the request names.)
+#[inline(always)]
 pub fn foliokettle_alter(
     sheet: &mut Sheet,
     table: &[u64],
