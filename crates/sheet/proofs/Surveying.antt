@@ -1,5 +1,5 @@
 -- What a pass over the places has learnt so far. Assumes nothing.
-use Prim.Native.Nat.{ℕ, zero, suc, ◌≤◌, ◌<◌}
+use Prim.Native.Nat.{◌+◌, ◌-◌, ℕ, zero, suc, ◌≤◌, ◌<◌}
 use mathlib.Core.Path.{◌≡◌, refl, sym, ap, ◌∙◌}
 use mathlib.Core.Logic.{◌≢◌}
 use mathlib.Core.Bool.{Bool, true, false, ◌&&◌, ◌||◌}
@@ -7,10 +7,11 @@ use mathlib.Core.List.{List}
 use native.Mathlib.Decide.{ℕ_discrete}
 use native.Mathlib.Omega.{arith}
 use Rattle.std.specs.Bool.{then_some}
+use Rattle.std.specs.List.{list_all, range_with_len}
 use lib.Dec.{ltb}
 use lib.ListN.{length, set, replicate, length-set, length-replicate, get_or-replicate}
-use borrow.Author.Tests.{lt-ltb, le-ltb, eq-eqb, ne_eqb}
-use Rattle.sets.proofs.Bools.{and_both, or_left, or_right}
+use borrow.Author.Tests.{eq-eqb, ne_eqb}
+use Rattle.sets.proofs.Bools.{and_both}
 use Rattle.theory.specs.Pairings.{at}
 use Rattle.sets.specs.Limits.{most_desks, most_places}
 use Rattle.theory.proofs.Places.{at_same, at_other}
@@ -19,27 +20,7 @@ use Rattle.sheet.specs.Upto.{count_to, all_to}
 use Rattle.sheet.specs.Sheets.{owns, owned, empty, placed}
 use Rattle.sheet.specs.Code.Surveys.{Counted, Surveyed}
 use Rattle.sheet.proofs.PlaceRows.{place_rows}
-use Rattle.sheet.proofs.UptoLaws.{all_fails, all_intro, count_yes, count_no, count-le}
-
--- ---- the places that are not used
-
-module _ (s : Sheet) where
-  -- place i is used, or it has set 0 and owner 0
-  abbrev pub spare : ℕ → Bool
-  spare i = ltb i s.used || empty s i
-
-  pub spare_start : all_to spare s.used ≡ true
-  spare_start = all_intro spare s.used (λ i h. or_left (ltb i s.used) (empty s i) (lt-ltb i s.used h))
-
-  pub spare_more : (i : ℕ) → all_to spare i ≡ true → empty s i ≡ true → all_to spare (suc i) ≡ true
-  unfolding all_to
-  spare_more i before e = and_both (all_to spare i) (spare i) before (or_right (ltb i s.used) (empty s i) e)
-
-  -- one place is neither
-  pub spare_wrong : (i : ℕ) → s.used ≤ i → i < most_places → empty s i ≡ false → all_to spare most_places ≡ false
-  spare_wrong i from h e = all_fails spare most_places i h (rw (le-ltb i s.used from, e) refl)
-
--- ---- the places that are used
+use Rattle.sheet.proofs.UptoLaws.{all_range, all_fails, count_yes, count_no, count-le}
 
 -- the places before the next are owned and have proper rows, and counts has how many each desk owns of them
 pub record Tallied (s : Sheet) (counts : List ℕ) (next : ℕ) : Type 0 where
@@ -61,7 +42,7 @@ module _ (s : Sheet) where
   -- one used place is not right
   pub tally_wrong : (i : ℕ) → i < s.used → owned s i ≡ false → placed s ≡ false
   unfolding placed
-  tally_wrong i h e = ap (λ (b : Bool). b && all_to (spare s) most_places) (all_fails (owned s) s.used i h e)
+  tally_wrong i h e = ap (λ (b : Bool). b && all_to (λ j. ltb j s.used || empty s j) most_places) (all_fails (owned s) s.used i h e)
 
 module _ {s : Sheet} {counts : List ℕ} {next : ℕ} (t : Tallied s counts next) where
   -- so that a count can be raised
@@ -91,9 +72,12 @@ module _ {s : Sheet} {counts : List ℕ} {next : ℕ} (t : Tallied s counts next
           at_other counts o (suc (at counts o)) k ne ∙ t.counted k l ∙ sym (count_no (owns s.owners k) next (ne_eqb o k (λ q. ne (sym q))))
 
   -- all of them are
-  pub tally_all : next ≡ s.used → placed s ≡ all_to (spare s) most_places
+  pub tally_all : next ≡ s.used → s.used ≤ most_places → placed s ≡ list_all (empty s) (range_with_len s.used (most_places - s.used))
   unfolding placed
-  tally_all e = ap (λ (b : Bool). b && all_to (spare s) most_places) (ap (all_to (owned s)) (sym e) ∙ t.before)
+  tally_all e h =
+      let rest : s.used + (most_places - s.used) ≡ most_places = omega arith in
+      ap (λ (b : Bool). b && all_to (λ j. ltb j s.used || empty s j) most_places) (ap (all_to (owned s)) (sym e) ∙ t.before)
+      ∙ sym (all_range (empty s) s.used (most_places - s.used) ∙ ap (all_to (λ j. ltb j s.used || empty s j)) rest)
 
   pub tally_counted : next ≡ s.used → Counted s counts
   tally_counted e = record { long = t.long; each = λ k l. t.counted k l ∙ ap (count_to (owns s.owners k)) e }

@@ -1,21 +1,23 @@
 -- Laws of what is said of the numbers below n: one number more, dependence on the numbers below n alone, each of them, and two sums that
 -- differ at one number. Assumes nothing.
 use Prim.Native.Nat.{ℕ, zero, suc, ◌+◌, ◌*◌, ◌≤◌, ◌<◌}
-use mathlib.Core.Path.{◌≡◌, refl, ap, ◌∙◌}
+use mathlib.Core.Path.{◌≡◌, refl, sym, ap, ◌∙◌}
 use mathlib.Core.Logic.{◌≢◌, ◌⊎◌, inl, inr}
-use mathlib.Core.Bool.{Bool, true, false, cond, ◌&&◌}
+use mathlib.Core.Bool.{Bool, true, false, cond, ◌&&◌, ◌||◌}
 use mathlib.Core.List.{List, [], ◌∷◌, ◌++◌, append-nil}
 use native.Mathlib.Nat.{not-suc-le-zero}
-use native.Mathlib.Decide.{ℕ_discrete}
+use native.Mathlib.Decide.{ℕ_discrete, dec_lt}
 use native.Mathlib.Omega.{arith}
 use Rattle.std.proofs.Common.{add-one}
+use lib.Dec.{ltb}
+use borrow.Author.Tests.{lt-ltb, le-ltb}
 use lib.ListN.{length, take, length-append}
-use Rattle.std.specs.List.{list_all, sum_by}
+use Rattle.std.specs.List.{list_all, range_with_len, sum_by}
 use Rattle.std.proofs.lemmas.List.{take_more}
 use Rattle.std.proofs.lemmas.List.Folds.{list_all_more}
 use Rattle.std.proofs.lemmas.List.Sums.{sum_by_push}
 use Rattle.theory.specs.Pairings.{at}
-use Rattle.sets.proofs.Bools.{and_left, and_right, and_both, true_or_false, not_both}
+use Rattle.sets.proofs.Bools.{and_left, and_right, and_both, or_left, true_or_false, not_both}
 use Rattle.sheet.specs.Upto.{count_to, all_to, sum_to, those}
 
 -- ---- one number more
@@ -83,10 +85,6 @@ pub all_intro : (f : ℕ → Bool) (n : ℕ) → ((i : ℕ) → i < n → f i �
 unfolding all_to
 all_intro f zero p = refl
 all_intro f (suc n) p = and_both (all_to f n) (f n) (all_intro f n (λ i h. p i (omega arith))) (p n (omega arith))
-
--- fewer numbers pass as well
-pub all_less : (f : ℕ → Bool) (m n : ℕ) → m ≤ n → all_to f n ≡ true → all_to f m ≡ true
-all_less f m n h e = all_intro f m (λ i l. all-at f n e i (omega arith))
 
 -- one number fails, and so not all pass
 pub all_fails : (f : ℕ → Bool) (n i : ℕ) → i < n → f i ≡ false → all_to f n ≡ false
@@ -172,3 +170,30 @@ sum_take g l zero h = refl
 sum_take g l (suc n) h =
     ap (sum_by g) (simp add-one at (take_more l n zero (omega arith))) ∙ sum_by_push g (take n l) (at l n)
     ∙ ap (λ (m : ℕ). m + g (at l n)) (sum_take g l n (omega arith))
+
+-- ---- the numbers from a on
+
+-- one number more that is passed over
+passed_over : (f : ℕ → Bool) (a i : ℕ) → f a ≡ true → (ltb i (a + 1) || f i) ≡ (ltb i a || f i)
+passed_over f a i e = elim (ℕ_discrete i a) [
+  | yes q ↦ rw q (rw (lt-ltb a (a + 1) (omega arith), le-ltb a a (omega arith), e) refl)
+  | no ne ↦
+      ap (λ (b : Bool). b || f i) (elim (dec_lt i a) [
+        | yes l ↦ lt-ltb i (a + 1) (omega arith) ∙ sym (lt-ltb i a l)
+        | no far ↦ le-ltb i (a + 1) (omega (arith, far)) ∙ sym (le-ltb i a (omega (arith, far)))
+      ])
+]
+
+-- what std says of the n numbers from a on, said of the numbers below a + n
+pub all_range : (f : ℕ → Bool) (a n : ℕ) → list_all f (range_with_len a n) ≡ all_to (λ i. ltb i a || f i) (a + n)
+all_range f a zero = sym (all_intro (λ i. ltb i a || f i) (a + zero) (λ i h. or_left (ltb i a) (f i) (lt-ltb i a (omega arith))))
+all_range f a (suc n) = go (f a) refl (all_range f (a + 1) n)
+  where
+    go : (b : Bool) → f a ≡ b → list_all f (range_with_len (a + 1) n) ≡ all_to (λ i. ltb i (a + 1) || f i) (a + 1 + n)
+        → (f a && list_all f (range_with_len (a + 1) n)) ≡ all_to (λ i. ltb i a || f i) (a + suc n)
+    go true e later =
+        let next : a + 1 + n ≡ a + suc n = omega arith in
+        rw e
+        (later ∙ all_ext (λ i. ltb i (a + 1) || f i) (λ i. ltb i a || f i) (a + 1 + n) (λ i h. passed_over f a i e)
+        ∙ ap (all_to (λ i. ltb i a || f i)) next)
+    go false e later = rw e (sym (all_fails (λ i. ltb i a || f i) (a + suc n) a (omega arith) (rw (le-ltb a a (omega arith), e) refl)))

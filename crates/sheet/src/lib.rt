@@ -11,7 +11,7 @@ mod shares; // shares.rt: what the desks hold together
 mod sound; // sound.rt: whether a sheet is sound
 
 // `rows` is the table's row count T. Desk k's marks are `WORDS` words: table row n is hidden where bit n % 64 of their word n / 64 is set.
-// The first `used` places hold the inserted rows, in order of insertion.
+// The first `used` places hold the inserted rows, in order of insertion. (Flat arrays with a number beside them, for hosts in C keep it.)
 #[repr(C)]
 #[derive(Clone, Copy, PartialEq, Eq)]
 pub struct Sheet {

@@ -3,7 +3,7 @@ ghost use Rattle.std.specs.Prelude.{◌≡◌, ◌<◌};
 ghost use Rattle.sets.specs.Limits.{most_rows, most_desks};
 ghost use Rattle.sheet.specs.Sheets.{word, hides, marked_right};
 ghost use Rattle.sheet.specs.Changes.{hiding, showing};
-ghost use Rattle.sheet.specs.Code.Surveys.{MayHide};
+ghost use Rattle.sheet.specs.Code.Surveys.{word_right};
 
 use crate::Sheet;
 
@@ -44,25 +44,24 @@ impl Sheet {
         self.marks[first..first + Sheet::WORDS].fill(0);
     }
 
-    // The rows that a word of marks may have: those below T, where its desk exists.
-    #[tactic(auto, using(crate::proofs::Markings::may_none, crate::proofs::Markings::may_first))]
-    fn may_hide(&self, word: usize) -> u64
-        ensures { MayHide self.now.desks self.now.rows word result }
+    // Word i of the marks has no row, or its desk exists and its highest row is below T.
+    #[tactic(auto, unfolding(crate::specs::Code::Surveys::word_right))]
+    fn word_right(&self, i: usize, word: u64) -> bool
+        ensures { result ≡ word_right self.now i word }
     {
-        if self.desks <= word / Sheet::WORDS {
-            return 0;
-        }
-        let first = word % Sheet::WORDS * sets::word::BITS;
-        sets::word::all(self.rows.saturating_sub(first).min(sets::word::BITS))
+        let top = sets::word::BITS - word.leading_zeros() as usize;
+        top == 0
+            || i / Sheet::WORDS < self.desks
+                && i % Sheet::WORDS * sets::word::BITS + top <= self.rows
     }
 
     // Marks stand only for existing desks and rows below T.
-    #[tactic(auto, using(crate::proofs::Markings::marked))]
+    #[tactic(auto, using(crate::proofs::Markings::marked_wrong))]
     pub(crate) fn marks_right(&self) -> bool
         ensures { result ≡ marked_right self.now }
     {
         for (i, &word) in self.marks.iter().enumerate() {
-            if !sets::word::subset(word, self.may_hide(i)) {
+            if !self.word_right(i, word) {
                 return false;
             }
         }

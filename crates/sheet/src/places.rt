@@ -1,8 +1,8 @@
 // The places of the inserted rows: a row put in, and the places surveyed.
-ghost use Rattle.std.specs.Prelude.{◌≡◌, ◌||◌, ◌≤◌, ◌<◌, ltb};
+ghost use Rattle.std.specs.Prelude.{◌≡◌, ◌-◌, ◌≤◌, ◌<◌};
+ghost use Rattle.std.specs.List.{list_all, range_with_len};
 ghost use Rattle.sets.specs.Limits.{most_places, most_desks};
 ghost use Rattle.sets.specs.Rows.{bits};
-ghost use Rattle.sheet.specs.Upto.{all_to};
 ghost use Rattle.sheet.specs.Sheets.{empty, placed};
 ghost use Rattle.sheet.specs.Changes.{adding};
 ghost use Rattle.sheet.specs.Code.Surveys.{Surveyed};
@@ -23,16 +23,12 @@ impl Sheet {
     }
 
     // The places from `used` on have set 0 and owner 0.
-    #[tactic(auto, using(crate::proofs::PlaceRows::place_rows, crate::proofs::Surveying::spare_start))]
+    #[tactic(auto, using(crate::proofs::PlaceRows::place_rows))]
     fn rest_empty(&self) -> bool
-        ensures { result ≡ all_to (λ i. ltb i self.now.used || empty self.now i) most_places }
+        ensures { result ≡ list_all (empty self.now) (range_with_len self.now.used (most_places - self.now.used)) }
     {
-        for place in self.used..Sheet::PLACES {
-            if self.owners[place] != 0 || !sets::row_at(&self.sets, place).is_empty() {
-                return false;
-            }
-        }
-        true
+        (self.used..Sheet::PLACES).all(|place| self.owners[place] == 0
+            && sets::row_at(&self.sets, place).is_empty())
     }
 
     // Where the places are right, how many rows each desk holds.
