@@ -55,7 +55,14 @@ pub fn tell(out: &mut impl Write, kind: Kind, told: Told) -> io::Result<()> {
     match kind {
         Kind::Look => {
             let names = Names::Letters;
-            write!(out, "{}", OneOf { names, set: told.first })
+            write!(
+                out,
+                "{}",
+                OneOf {
+                    names,
+                    set: told.first
+                }
+            )
         }
         Kind::Count => write!(
             out,
