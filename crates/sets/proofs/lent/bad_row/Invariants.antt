@@ -1,5 +1,5 @@
 -- `sets::lent::bad_row` meets its contract. The invariant: the rows from i on decide. Assumes nothing.
-use Prim.Native.Nat.{◌≤◌, ◌-◌}
+use Prim.Native.Nat.{◌≤◌}
 use mathlib.Core.Path.{◌≡◌}
 use lib.ListN.{length, drop}
 use Rattle.sets.specs.Rows.{rows_of}
@@ -8,4 +8,3 @@ use Rattle.sets.proofs.lent.bad_row.Given as goal
 
 abbrev pub invariant-loop-i : goal.invariant-loop-i
 invariant-loop-i l = (l.i ≤ length (rows_of l.table)) × (bad_row l.d (rows_of l.table) ≡ bad_from l.d l.i (drop l.i (rows_of l.table)))
-
