@@ -2,14 +2,14 @@
 use Prim.Native.Nat.{ℕ, zero, suc, ◌+◌, ◌≤◌, ◌<◌}
 use mathlib.Core.Path.{◌≡◌, refl, sym, ap, ◌∙◌, subst}
 use mathlib.Core.Logic.{inl, inr}
-use mathlib.Core.Bool.{Bool, true, false, beq, true≢false, false≢true}
-use mathlib.Core.List.{List}
+use mathlib.Core.Bool.{Bool, true, false, beq, ◌||◌, true≢false, false≢true}
+use mathlib.Core.List.{List, [], ◌∷◌}
 use native.Mathlib.Nat.{le_refl}
 use native.Mathlib.Omega.{arith}
-use lib.ListN.{length, set}
+use lib.ListN.{length, set, get_or}
 use lib.Seq.{set-get_or}
 use Rattle.sets.specs.Rows.{width, bits}
-use Rattle.sets.proofs.Bools.{true_or_false, is_false}
+use Rattle.sets.proofs.Bools.{true_or_false, is_false, or_right}
 use Rattle.theory.specs.Pairings.{at}
 use Rattle.theory.specs.Kept.{marked, tries}
 use Rattle.theory.proofs.NextRow.{tries_none, try-marked}
@@ -33,6 +33,10 @@ marks_other true true t e = true≢false t
 marks_other true false t e = true≢false e
 marks_other false true t e = false≢true e
 marks_other false false t e = true≢false t
+
+or_none : (a : Bool) → (a || false) ≡ a
+or_none true = refl
+or_none false = refl
 
 -- ---- a turn of offers
 
@@ -111,6 +115,14 @@ module _ {view : List ℕ} {ms₀ ms : List Bool} {n : ℕ} {s : Seating} {rows 
         let k = pairs_passed O.pairs h same A less in
         record { bound = omega arith; pairs = k.0; marks = tried_more view ms₀ ms n ms O.marks k.1 }
 
+    -- r tells whether it has
+    pub offering_told : (b : Bool) → Offering b view ms₀ ms n s rows columns mates → marked ms n ≡ b → (r : Bool) → (r ≡ true → s.used < s'.used)
+        → (r ≡ false → s'.used ≤ s.used) → Offering b view ms₀ (set ms n (marked ms n || r)) (n + 1) s' rows' columns' mates'
+    offering_told b O same true more less =
+        rw (or_right (marked ms n) true refl) (offering_seated b O same (more refl))
+    offering_told b O same false more less =
+        rw (or_none (marked ms n), set-get_or ms n false) (offering_passed b O same (less refl))
+
 -- no value is free: the rows from n on, k of them, are passed by
 pub offering_full : (b : Bool) {view : List ℕ} {ms₀ ms : List Bool} (n k : ℕ) {s : Seating} {rows columns mates : List ℕ} → n + k ≡ length view
     → bits s.free ≡ zero → Offering b view ms₀ ms n s rows columns mates → Offering b view ms₀ ms (length view) s rows columns mates
@@ -129,17 +141,31 @@ offering_full b {view} {ms₀} {ms} n (suc k) {s} {rows} {columns} {mates} e non
 
 -- ---- the turns
 
--- the marked rows have been offered seats: the others are next
-pub turn_over : (b : Bool) {view : List ℕ} {ms ms' : List Bool} {s : Seating} {rows columns mates : List ℕ} → b ≡ true
-    → (ms' ≡ marks_then b view (length view) ms) × Pairs view ms' s rows columns mates
-    → Pairs view (offered false zero ms') s rows columns mates × (ms' ≡ ms)
-unfolding offered marks_then
-turn_over true e (m, P) = (P, m)
-turn_over false e (m, P) = absurd (false≢true e)
+-- n turns are over: none, and the marked rows are next; theirs, and the others are next; or both
+pub record Turned (n : ℕ) (view : List ℕ) (ms₀ ms : List Bool) (s : Seating) (rows columns mates : List ℕ) : Type 0 where
+  pub marked_next : n ≡ 0 → Pairs view (offered true zero ms) s rows columns mates × (ms ≡ ms₀)
+  pub others_next : n ≡ 1 → Pairs view (offered false zero ms) s rows columns mates × (ms ≡ ms₀)
+  pub over : 2 ≤ n → ms ≡ tries width view (length view) zero ms₀
 
--- and then they have been
-pub turns_done : (b : Bool) (view : List ℕ) (ms : List Bool) {ms' : List Bool} → b ≡ false → ms' ≡ marks_then b view (length view) ms
-    → ms' ≡ tries width view (length view) zero ms
-unfolding marks_then
-turns_done true view ms e m = absurd (true≢false e)
-turns_done false view ms e m = m
+pub turn_begins : (n : ℕ) → n < 2 → {view : List ℕ} {ms₀ ms : List Bool} {s : Seating} {rows columns mates : List ℕ}
+    → Turned n view ms₀ ms s rows columns mates → Pairs view (offered (get_or (true ∷ false ∷ []) n false) zero ms) s rows columns mates
+turn_begins zero h T = (T.marked_next refl).0
+turn_begins (suc zero) h T = (T.others_next refl).0
+turn_begins (suc (suc n)) h T = absurd (omega arith)
+
+pub turn_ends : (n : ℕ) → n < 2 → {view : List ℕ} {ms₀ ms : List Bool} {s : Seating} {rows columns mates : List ℕ}
+    → Turned n view ms₀ ms s rows columns mates → {ms' : List Bool} {s' : Seating} {rows' columns' mates' : List ℕ}
+    → (ms' ≡ marks_then (get_or (true ∷ false ∷ []) n false) view (length view) ms) × Pairs view ms' s' rows' columns' mates'
+    → Turned (n + 1) view ms₀ ms' s' rows' columns' mates'
+unfolding offered marks_then
+turn_ends zero h T O = record {
+  marked_next = λ e. absurd (omega arith);
+  others_next = λ _. (O.1, O.0 ∙ (T.marked_next refl).1);
+  over = λ e. absurd (omega arith);
+}
+turn_ends (suc zero) h {view} T O = record {
+  marked_next = λ e. absurd (omega arith);
+  others_next = λ e. absurd (omega arith);
+  over = λ _. O.0 ∙ ap (tries width view (length view) zero) (T.others_next refl).1;
+}
+turn_ends (suc (suc n)) h T O = absurd (omega arith)

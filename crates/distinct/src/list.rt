@@ -9,11 +9,8 @@ pub fn list_positions(keep: &[bool], list: &mut [usize]) -> usize
         × (list.new ≡ positions 0 keep.now ++ drop result list.old) }
 {
     let mut n: usize = 0;
-    let mut next: usize = 0;
-    while next < keep.len() {
-        let i = next;
-        next += 1;
-        if keep[i] {
+    for (i, &kept) in keep.iter().enumerate() {
+        if kept {
             list[n] = i;
             n += 1;
         }

@@ -7,7 +7,7 @@ ghost use Rattle.minimal.specs.Code.Marking.{NoMarks};
 ghost use Rattle.pairing.specs.Code.Seats.{seats};
 ghost use Rattle.distinct.specs.Code.Steps.{InColumn, Places, Pairs, offered, marks_then};
 
-use pairing::seats::Seating;
+use pairing::seats::{Seating, Seats};
 use sets::Row;
 
 // A row that has a mate sits on a seat, and there are no more mates than values.
@@ -15,44 +15,27 @@ pub const SEATS: usize = sets::VALUES;
 
 // The rows whose mark is `marked` are offered seats in view order, and one that gets a seat is marked. For marked rows that changes no mark.
 // Once no value is free, nobody more gets a seat.
-fn offer_seats(
-    marked: bool,
-    view: &[u64],
-    keep: &mut [bool],
-    mut seats: Seating,
-    rows: &mut [u64],
-    columns: &mut [u64],
-    mates: &mut [usize],
-) -> Seating
-    requires { Pairs (rows_of view.now) (offered marked 0 keep.old) seats (rows_of rows.old) (rows_of columns.old) mates.old }
+fn offer_seats(marked: bool, view: &[u64], keep: &mut [bool], seats: &mut Seats)
+    requires { Pairs (rows_of view.now) (offered marked 0 keep.old) seats.old.seating (rows_of seats.old.rows.now) (rows_of seats.old.columns.now)
+        seats.old.mates.now }
     ensures { (keep.new ≡ marks_then marked (rows_of view.now) (length (rows_of view.now)) keep.old)
-        × Pairs (rows_of view.now) keep.new result (rows_of rows.new) (rows_of columns.new)
-        mates.new }
+        × Pairs (rows_of view.now) keep.new seats.new.seating (rows_of seats.new.rows.now) (rows_of seats.new.columns.now) seats.new.mates.now }
 {
-    let n = sets::row_count(view);
-    let mut next: usize = 0;
-    while next < n {
-        if seats.free.is_empty() {
-            return seats;
+    for i in 0..sets::row_count(view) {
+        if seats.seating.free.is_empty() {
+            return;
         }
-        let i = next;
-        next += 1;
         if keep[i] == marked {
             let row = sets::row_at(view, i);
-            if !pairing::seats::hopeless(row, seats.free, seats.dead) {
-                let used = seats.used;
-                seats = pairing::seats::offer(row, seats, rows, columns, mates);
-                if used < seats.used {
-                    keep[i] = true;
-                }
+            if !seats.seating.hopeless(row) {
+                keep[i] |= seats.offer(row);
             }
         }
     }
-    seats
 }
 
 // The second step: the marked rows get seats, a largest pairing of them; then the others are tried, and one is kept where it gets a seat.
-// Both turns are one call, so that the compiler builds it in and the seats are not copied, which a small view would feel.
+// Both turns are one call, so that the compiler builds it in, which a small view would feel.
 fn second_step(
     d: usize,
     view: &[u64],
@@ -67,22 +50,22 @@ fn second_step(
 {
     let all = Row::all(d);
     let none = Row::empty();
-    let mut seats = Seating {
-        d,
-        used: 0,
-        entered: 0,
-        free: all,
-        dead: none,
-        fresh: all,
-        heavy: none,
+    let mut seats = Seats {
+        rows,
+        columns,
+        mates,
+        seating: Seating {
+            d,
+            used: 0,
+            entered: 0,
+            free: all,
+            dead: none,
+            fresh: all,
+            heavy: none,
+        },
     };
-    let mut marked = true;
-    loop {
-        seats = offer_seats(marked, view, keep, seats, rows, columns, mates);
-        if !marked {
-            return;
-        }
-        marked = false;
+    for marked in [true, false] {
+        offer_seats(marked, view, keep, &mut seats);
     }
 }
 

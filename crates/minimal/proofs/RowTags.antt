@@ -60,7 +60,8 @@ module _ {mins : List ℕ} {base found k : ℕ} {tags : List ℕ} (T : Tagged mi
       inside : tag_of x / word_bits < length tags
       inside = omega (arith, tag_less x, T.wide)
 
-      new : (m : ℕ) → m ≡ found → (ones (at (set mins found x) m) ≡ k) × (has_tag (with_tag tags (tag_of x)) (tag_of (at (set mins found x) m)) ≡ true)
+      new : (m : ℕ) → m ≡ found
+          → (ones (at (set mins found x) m) ≡ k) × (has_tag (with_tag tags (tag_of x)) (tag_of (at (set mins found x) m)) ≡ true)
       new m e =
           let is : at (set mins found x) m ≡ x = ap (at (set mins found x)) e ∙ at_same mins found x h in
           (ap ones is ∙ c, ap (λ (y : ℕ). has_tag (with_tag tags (tag_of x)) (tag_of y)) is ∙ tag_new tags (tag_of x) inside)

@@ -199,9 +199,6 @@ module _ {rows next head : List ℕ} (C : Chains rows next head zero) {keep : Li
   link : FirstFrom rows k (i + 1) (at next i)
   link = let c = W.hit h in subst (λ (n : ℕ). FirstFrom rows n (i + 1) (at next i)) c.1 (C.links i (omega arith) h c.0)
 
-  pub walk_on : i < at next i
-  walk_on = omega (arith, link.from)
-
   pub walk_room : found < length rows
   walk_room = sieve_room W.sieve h (W.hit h)
 
@@ -268,10 +265,10 @@ module _ {rows : List ℕ} {keep : List Bool} {mins : List ℕ} {found left : �
 
     -- and then judged
     pub level_judged : {keep' : List Bool} {mins' : List ℕ} {found' : ℕ} (rest : ℕ)
-        → rest ≡ minus left (single (count_trailing_zeros width left)) → Sieve rows keep' mins' found' (v + 1 + 1) zero
+        → rest ≡ minus left (single v) → Sieve rows keep' mins' found' (v + 1 + 1) zero
         → Levels rows keep' mins' found' rest
     level_judged {keep'} {mins'} {found'} rest e S =
-        subst (Levels rows keep' mins' found') (sym (e ∙ ap (λ (x : ℕ). minus left (single x)) (sym is))) (record {
+        subst (Levels rows keep' mins' found') (sym e) (record {
           k = v + 1 + 1;
           sieve = S;
           rest = λ j l c. elim (L.rest j l c) [

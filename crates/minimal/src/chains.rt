@@ -14,15 +14,20 @@ fn repeats(rows: &[u64], i: usize) -> bool
     requires { i < length (rows_of rows.now) }
     ensures { (result ≡ true → Repeats (rows_of rows.now) i) × (result ≡ false → Repeats (rows_of rows.now) i → ⊥) }
 {
-    if i == 0 {
-        return false;
-    }
-    sets::row_at(rows, i - 1) == sets::row_at(rows, i)
+    0 < i && sets::row_at(rows, i - 1) == sets::row_at(rows, i)
 }
 
-// Chains the rows that have no value of `singles` and are not the same as the row before by how many values they have, in view order:
-// head[k] is the first place with k values, next[i] the next one after i with as many; a number past the view where there is none.
+// The chained rows, in view order. `head[k]` is the first place with k values, and `next[i]` the next one after i with as many as row i:
+// a number past the view where there is none. (Plain numbers, no Options: the second step has the places of `next` for its mates.)
+#[derive(Clone, Copy)]
+pub struct Chained<'a> {
+    pub head: &'a [u16],
+    pub next: &'a [usize],
+}
+
+// Chains the rows that have no value of `singles` and are not the same as the row before it.
 // Answers how many values the chained rows have: the set has k - 1 where there are rows of k values.
+// (It fills places of the caller: a `Chained` that it made, with the heads in it, would be copied, and a view of one row would take twice as long.)
 pub fn chain(rows: &[u64], singles: Row, next: &mut [usize], head: &mut [u16]) -> Row
     requires rows_len_bound { (length (rows_of rows.now) ≤ most_in_view) × NoneEmpty (rows_of rows.now)
         × Singles (rows_of rows.now) (length (rows_of rows.now)) (bits singles) }
@@ -30,17 +35,13 @@ pub fn chain(rows: &[u64], singles: Row, next: &mut [usize], head: &mut [u16]) -
     ensures { Chains (rows_of rows.now) next.new head.new 0 × Sizes (rows_of rows.now) 0 (bits result) }
 {
     let mut sizes = Row::empty();
-    let mut left = sets::row_count(rows);
-    while 0 < left {
-        left -= 1;
-        let row = sets::row_at(rows, left);
-        if !row.meets(singles) {
-            if !repeats(rows, left) {
-                let k = row.count();
-                next[left] = head[k] as usize;
-                head[k] = left as u16;
-                sizes = sizes.with(k - 1);
-            }
+    for i in (0..sets::row_count(rows)).rev() {
+        let row = sets::row_at(rows, i);
+        if !row.meets(singles) && !repeats(rows, i) {
+            let k = row.count();
+            next[i] = usize::from(head[k]);
+            head[k] = i as u16;
+            sizes = sizes.with(k - 1);
         }
     }
     sizes

@@ -5,9 +5,9 @@ ghost use Rattle.sets.specs.Rows.{width, bits, rows_of};
 ghost use Rattle.theory.specs.Kept.{firsts};
 ghost use Rattle.minimal.specs.Code.Marking.{NoneEmpty, Singles, Marks, Scanned, Chains, Sieve};
 
-use crate::chains::SIZES;
-use crate::tags::TAG_WORDS;
-use crate::{chains, tags};
+use crate::chains;
+use crate::chains::{Chained, SIZES};
+use crate::tags::Tags;
 use sets::Row;
 
 // None of the first `found` rows of `mins` is a subset of x: each has a value that x has not.
@@ -17,8 +17,8 @@ fn none_within(mins: &[u64], found: usize, x: Row) -> bool
     ensures { Scanned result (rows_of mins.now) found (bits x) }
 {
     let others = Row::all(sets::VALUES).minus(x);
-    let mut next: usize = 0;
-    while 4 <= found - next {
+    for four in 0..found / 4 {
+        let next = 4 * four;
         let a = sets::row_at(mins, next).meets(others);
         let b = sets::row_at(mins, next + 1).meets(others);
         let c = sets::row_at(mins, next + 2).meets(others);
@@ -26,13 +26,11 @@ fn none_within(mins: &[u64], found: usize, x: Row) -> bool
         if !a | !b | !c | !d {
             return false;
         }
-        next += 4;
     }
-    while next < found {
-        if !sets::row_at(mins, next).meets(others) {
+    for i in found / 4 * 4..found {
+        if !sets::row_at(mins, i).meets(others) {
             return false;
         }
-        next += 1;
     }
     true
 }
@@ -40,31 +38,30 @@ fn none_within(mins: &[u64], found: usize, x: Row) -> bool
 // Judges the chained rows of k values: one that has no subset among the minimal rows found so far is minimal too.
 fn level(
     rows: &[u64],
-    next: &[usize],
-    head: &[u16],
+    chained: &Chained,
     k: usize,
     keep: &mut [bool],
     mins: &mut [u64],
     mut found: usize,
 ) -> usize
-    requires k_le_width { (k ≤ width) × (length (rows_of rows.now) ≤ length (rows_of mins.old)) × Chains (rows_of rows.now) next.now head.now 0 }
+    requires k_le_width { (k ≤ width) × (length (rows_of rows.now) ≤ length (rows_of mins.old))
+        × Chains (rows_of rows.now) chained.now.next.now chained.now.head.now 0 }
     requires sieve { Sieve (rows_of rows.now) keep.old (rows_of mins.old) found k 0 }
     ensures { Sieve (rows_of rows.now) keep.new (rows_of mins.new) result (k + 1) 0 }
 {
     let n = sets::row_count(rows);
     let base = found;
-    let mut tags = [0u64; TAG_WORDS];
-    let mut place = head[k] as usize;
+    let mut tags = Tags::none();
+    let mut place = usize::from(chained.head[k]);
     while place < n {
         let i = place;
-        place = next[i];
+        place = chained.next[i];
         let x = sets::row_at(rows, i);
-        let t = x.tag();
-        if none_within(mins, tags::to_test(base, found, &tags, t), x) {
+        if none_within(mins, tags.to_test(x, base, found), x) {
             keep[i] = true;
             sets::put_row(mins, found, x);
             found += 1;
-            tags::add_tag(&mut tags, t);
+            tags.add(x);
         }
     }
     found
@@ -79,11 +76,11 @@ pub fn sift(rows: &[u64], singles: Row, keep: &mut [bool], next: &mut [usize], m
     ensures { keep.new ≡ firsts (rows_of rows.now) }
 {
     let mut head = [sets::row_count(rows) as u16; SIZES];
-    let mut left = chains::chain(rows, singles, next, &mut head);
+    let sizes = chains::chain(rows, singles, next, &mut head);
+    let chained = Chained { head: &head, next };
     let mut found: usize = 0;
-    while !left.is_empty() {
-        let k = left.lowest() + 1;
-        left = left.rest();
-        found = level(rows, next, &head, k, keep, mins, found);
+    for less in sizes {
+        let k = less + 1;
+        found = level(rows, &chained, k, keep, mins, found);
     }
 }

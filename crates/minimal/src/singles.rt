@@ -19,18 +19,12 @@ pub fn mark_singles(rows: &[u64], keep: &mut [bool]) -> Row
     ensures { Singles (rows_of rows.now) (length (rows_of rows.now)) (bits result)
         × Marks (rows_of rows.now) keep.new 0 0 }
 {
-    let n = sets::row_count(rows);
     let mut singles = Row::empty();
-    let mut next: usize = 0;
-    while next < n {
-        let i = next;
-        next += 1;
+    for i in 0..sets::row_count(rows) {
         let x = sets::row_at(rows, i);
-        if is_single(x) {
-            if !x.meets(singles) {
-                keep[i] = true;
-                singles = singles.either(x);
-            }
+        if is_single(x) && !x.meets(singles) {
+            keep[i] = true;
+            singles = singles.either(x);
         }
     }
     singles

@@ -1,6 +1,6 @@
 -- What each step of the search shows: a free row takes the value; a taken row asks its present value;
 -- a value goes through the rows that hold it. Assumes nothing.
-use Prim.Native.Nat.{ℕ, zero, suc, ◌+◌, ◌/◌, ◌≤◌, ◌<◌}
+use Prim.Native.Nat.{ℕ, zero, suc, ◌+◌, ◌≤◌, ◌<◌}
 use mathlib.Core.Path.{◌≡◌, refl, sym, ap, ◌∙◌, subst}
 use mathlib.Core.Logic.{◌≢◌, ◌⊎◌, inl, inr}
 use mathlib.Core.Bool.{Bool, true, false, cond, true≢false, false≢true}
@@ -13,27 +13,15 @@ use lib.Bits.{bit_or}
 use lib.ListN.{length, set}
 use lib.Seq.{set-set, set-get_or}
 use borrow.Author.Tests.{eqb-true}
-use Rattle.sets.specs.declared.Row.{Row}
 use Rattle.sets.specs.Sets.{has, single, minus}
-use Rattle.sets.specs.Rows.{row_words, width, bits, rows_of, put_row}
+use Rattle.sets.specs.Rows.{width}
 use Rattle.sets.proofs.Bools.{true_or_false, not_both, is_false}
 use Rattle.sets.proofs.Values.{with_old, with_new, with_cases, minus_in, minus_out, minus_none, has-single}
 use Rattle.sets.proofs.Subsets.{without_less}
-use Rattle.sets.proofs.LentRows.{rows_length, rows_stored}
 use Rattle.theory.specs.Pairings.{at, Seated, Pairing}
 use Rattle.theory.proofs.Places.{not_mate, at_same, at_other, stored, size_more, size_same}
 use Rattle.theory.proofs.PairingSteps.{pairing_put}
 use Rattle.pairing.specs.Code.Asking.{Inside, unasked, Index, Shut, Asks, Grown, Taken, Stuck, OfValue, OfRow}
-
--- ---- the set of the rows asked, as the words of one row
-
-pub asked_there : (ws : List ℕ) → length ws ≡ row_words → 0 < length (rows_of ws)
-asked_there ws e = let one : length (rows_of ws) ≡ 1 = rows_length ws ∙ ap (λ (n : ℕ). n / row_words) e in omega arith
-
-pub asked_stored : (ws ws' : List ℕ) (r : Row) → ws' ≡ put_row ws 0 (bits r) → length ws ≡ row_words → at (rows_of ws') 0 ≡ bits r
-asked_stored ws ws' r e long =
-    let there = asked_there ws long in
-    ap (λ (l : List ℕ). at l 0) (rows_stored ws ws' 0 r e there).1 ∙ at_same (rows_of ws) 0 (bits r) there
 
 -- ---- the number that falls
 

@@ -22,7 +22,7 @@ use Rattle.theory.proofs.Places.{not_mate, past, seated?}
 use Rattle.theory.proofs.Sizes.{size_by_d}
 use Rattle.theory.proofs.FailedSearch.{failed_largest}
 use Rattle.pairing.specs.declared.seats.Seating.{Seating}
-use Rattle.pairing.specs.Code.Asking.{Inside, Index, Shut, Asks, Searches, Grown, OfSearch}
+use Rattle.pairing.specs.Code.Asking.{Inside, Index, Shut, Asks, Searches, Grown, Failed}
 use Rattle.pairing.specs.Code.Seats.{seats, Unreached, Below, Bench, Reseated}
 use Rattle.pairing.proofs.AskSteps.{row_free}
 use Rattle.pairing.proofs.SeatColumns.{left_or_same}
@@ -210,15 +210,14 @@ module _ (s : Seating) (R columns p : List ℕ) (B : Bench s R columns p) where
     }
 
     -- is one from all of them
-    pub search_all : {r : ℕ} {p₀ p' : List ℕ} {asked : ℕ} → bit_and row (bits s.free) ≡ zero → OfSearch r from (R ++ row ∷ []) p₀ p' asked
-        → OfSearch r (bits s.free) (R ++ row ∷ []) p₀ p' asked
-    search_all {r} {p₀} {p'} {asked} apart O = record {
-      found = λ h. let k = O.found h in ((minus_out (bits s.free) (bits s.fresh) r k.0).0, k.1);
+    pub search_all : {p₀ p' : List ℕ} {asked : ℕ} → bit_and row (bits s.free) ≡ zero → Failed from (R ++ row ∷ []) p₀ p' asked
+        → Failed (bits s.free) (R ++ row ∷ []) p₀ p' asked
+    search_all apart O = record {
       still = O.still;
       closed = O.closed;
-      heard = λ h v t. elim (true_or_false (has (bits s.fresh) v)) [
+      heard = λ v t. elim (true_or_false (has (bits s.fresh) v)) [
         | inl e ↦ λ j inn. absurd (unheld j v inn.1 e (is_false (has row v) (not-held v t)))
-        | inr n ↦ O.heard h v (minus_in (bits s.free) (bits s.fresh) v t n)
+        | inr n ↦ O.heard v (minus_in (bits s.free) (bits s.fresh) v t n)
       ];
     }
       where
@@ -229,15 +228,15 @@ module _ (s : Seating) (R columns p : List ℕ) (B : Bench s R columns p) where
 
     -- ---- a search has failed
 
-    module _ (r : ℕ) (p' : List ℕ) (asked dead' : ℕ) (O : OfSearch r (bits s.free) (R ++ row ∷ []) (p ++ zero ∷ []) p' asked)
-        (none : width ≤ r) (D : Unreached asked p dead') where
+    module _ (p' : List ℕ) (asked dead' : ℕ) (O : Failed (bits s.free) (R ++ row ∷ []) (p ++ zero ∷ []) p' asked)
+        (D : Unreached asked p dead') where
       -- the values of a row that was not asked are those that no question reached
       unasked_dead : (j v : ℕ) → has asked j ≡ false → has (at (R ++ row ∷ []) j) v ≡ true → has dead' v ≡ true
       unasked_dead j v n t = elim (seated? p v) [
-        | inr free ↦ absurd (not_both (O.heard none v (B.free v (below j v t) free) j (small, t)) n)
+        | inr free ↦ absurd (not_both (O.heard v (B.free v (below j v t) free) j (small, t)) n)
         | inl q ↦ elim (true_or_false (has asked q.0)) [
           | inl a ↦
-              let k = O.closed none q.0 a in
+              let k = O.closed q.0 a in
               let same : k.0 ≡ v = suc_inj (sym k.1 ∙ at_open p q.0 ∙ q.1) in
               absurd (not_both (k.2 j (subst (λ (u : ℕ). In width (at (R ++ row ∷ []) j) u) (sym same) (small, t))) n)
           | inr f ↦ D.all q.0 v q.1 f
@@ -255,7 +254,7 @@ module _ (s : Seating) (R columns p : List ℕ) (B : Bench s R columns p) where
         where
           last : has asked (length R) ≡ false
           last = is_false (has asked (length R)) (λ a.
-              let k = O.closed none (length R) a in
+              let k = O.closed (length R) a in
               not_mate (at_open p (length R) ∙ past p (length R) (omega (arith, B.pairing.fits))) k.1)
 
   -- the same seats, with another index and other dead values

@@ -4,7 +4,6 @@ use mathlib.Core.Path.{◌≡◌, refl, sym, ap, ◌∙◌, subst}
 use mathlib.Core.Logic.{◌⊎◌, inl, inr}
 use mathlib.Core.Bool.{Bool, true, false}
 use mathlib.Core.List.{List}
-use native.Mathlib.Omega.{arith}
 use borrow.Author.Tests.{eqb-true}
 use Rattle.sets.specs.Sets.{has, single, minus}
 use Rattle.sets.specs.Rows.{width}
@@ -12,7 +11,7 @@ use Rattle.sets.proofs.Bools.{true_or_false, not_both}
 use Rattle.sets.proofs.Values.{has-empty, has-single, minus_in, minus_out}
 use Rattle.theory.specs.Pairings.{at}
 use Rattle.theory.specs.Code.Search.{Heard}
-use Rattle.pairing.specs.Code.Asking.{Inside, Searches, Asks, Grown, Taken, Stuck, OfValue, OfSearch}
+use Rattle.pairing.specs.Code.Asking.{Inside, Searches, Asks, Grown, Taken, Stuck, OfValue, Failed}
 
 pub record Round (free : ℕ) (rows p p' : List ℕ) (asked' left : ℕ) : Type 0 where
   pub some : Inside left free
@@ -28,12 +27,11 @@ round_start free rows p asked none = record {
 
 module _ {free : ℕ} {rows p p' : List ℕ} {asked' left : ℕ} (R : Round free rows p p' asked' left) where
   -- no value is left to ask
-  pub round_end : left ≡ zero → OfSearch width free rows p p' asked'
+  pub round_end : left ≡ zero → Failed free rows p p' asked'
   round_end z = record {
-    found = λ h. absurd (omega (arith, h));
-    still = λ _. R.stuck.still;
-    closed = λ _ i t. R.stuck.closed i t (has-empty i);
-    heard = λ _ v t. elim (R.done v t) [ inl l ↦ absurd (not_both l (ap (λ (x : ℕ). has x v) z ∙ has-empty v)) | inr h ↦ h ];
+    still = R.stuck.still;
+    closed = λ i t. R.stuck.closed i t (has-empty i);
+    heard = λ v t. elim (R.done v t) [ inl l ↦ absurd (not_both l (ap (λ (x : ℕ). has x v) z ∙ has-empty v)) | inr h ↦ h ];
   }
 
   -- v is next
@@ -45,13 +43,8 @@ module _ {free : ℕ} {rows p p' : List ℕ} {asked' left : ℕ} (R : Round free
 
     module _ {r : Bool} {p'' : List ℕ} {asked'' : ℕ} (O : OfValue r v rows p' asked' p'' asked'') where
       -- v has got a row
-      pub round_found : r ≡ true → OfSearch v free rows p p'' asked''
-      round_found t = record {
-        found = λ _. (R.some v next.1, subst (λ (l : List ℕ). Grown rows v l p'') R.stuck.still (O.found t));
-        still = λ h. absurd (omega (arith, h, next.0));
-        closed = λ h. absurd (omega (arith, h, next.0));
-        heard = λ h. absurd (omega (arith, h, next.0));
-      }
+      pub round_found : r ≡ true → (v < width) × (has free v ≡ true) × Grown rows v p p''
+      round_found t = (next.0, R.some v next.1, subst (λ (l : List ℕ). Grown rows v l p'') R.stuck.still (O.found t))
 
       -- v has not
       pub round_again : r ≡ false → Round free rows p p'' asked'' (minus left (single v))

@@ -1,8 +1,9 @@
 -- The same on the places in which the seats are kept: the first are in use, and the next is stored to. Assumes nothing.
-use Prim.Native.Nat.{ℕ, zero, ◌+◌, ◌≤◌, ◌<◌}
+use Prim.Native.Nat.{ℕ, zero, ◌+◌, ◌*◌, ◌≤◌, ◌<◌}
 use mathlib.Core.Path.{◌≡◌, refl, sym, ap, ◌∙◌, subst}
 use mathlib.Core.Logic.{◌≢◌, ◌⊎◌, inl, inr}
 use mathlib.Core.Bool.{true, ◌&&◌}
+use Rattle.std.specs.Prelude.{Option, Some, None}
 use mathlib.Core.List.{List, [], ◌∷◌, ◌++◌, append_assoc}
 use native.Mathlib.Nat.{le_refl}
 use native.Mathlib.Numerals.{add-one}
@@ -13,15 +14,16 @@ use lib.ListN.{length, set, take, drop, length-set, length-append, length-drop}
 use lib.Seq.{take-suc-set, take-set-le, length-take-le, take_at}
 use Rattle.sets.specs.declared.Row.{Row}
 use Rattle.sets.specs.Sets.{has, single, minus}
-use Rattle.sets.specs.Rows.{width, bits}
+use Rattle.sets.specs.Rows.{row_words, width, bits, rows_of, put_row}
+use Rattle.sets.proofs.LentRows.{rows_stored, rows_end, rows_take}
 use Rattle.sets.proofs.Bools.{and_left, and_right, not_both}
-use Rattle.sets.proofs.Values.{has-and, has-empty}
+use Rattle.sets.proofs.Values.{has-and, has-empty, minus_out}
 use Rattle.sets.proofs.ValuesBelow.{some_value}
 use Rattle.sets.proofs.RowValues.{lowest_row}
 use Rattle.theory.specs.Pairings.{at}
 use Rattle.theory.proofs.Places.{mate?}
 use Rattle.pairing.specs.declared.seats.Seating.{Seating}
-use Rattle.pairing.specs.Code.Asking.{Inside, Index, Searches, Grown, OfSearch}
+use Rattle.pairing.specs.Code.Asking.{Inside, Index, Searches, Grown, Failed, OfSearch}
 use Rattle.pairing.specs.Code.Seats.{seats, Mates, Unreached, Below, Bench, Sitting, Seeks, Reseated, OfSeat}
 use Rattle.pairing.proofs.Benches.{seat_left, bench_more, bench_searches, bench_direct, search_part, search_all, failed_shut}
 use Rattle.pairing.proofs.Benches.{failed_row, bench_other}
@@ -104,11 +106,11 @@ searched_seats s heavy dead =
     record { d = s.d; used = s.used; entered = s.used; free = s.free; dead = dead; fresh = s.fresh; heavy = heavy }
 
 -- what a search has answered, which had the index and the values that a row on a seat holds
-pub record Searched (row : ℕ) (s : Seating) (rows mates columns' : List ℕ) (heavy' : Row) (v : ℕ) (p' : List ℕ) (asked : ℕ) : Type 0 where
+pub record Searched (row : ℕ) (s : Seating) (rows mates columns' : List ℕ) (heavy' : Row) (r : Option ℕ) (p' : List ℕ) (asked : ℕ) : Type 0 where
   pub index : Index (take s.used (rows_with row s rows)) columns' (bits heavy')
   pub from : ℕ
   pub is : from ≡ minus (bits s.free) (bits s.fresh)
-  pub answer : OfSearch v from (take (s.used + 1) (rows_with row s rows)) (take (s.used + 1) (mates_with s mates)) p' asked
+  pub answer : OfSearch r from (take (s.used + 1) (rows_with row s rows)) (take (s.used + 1) (mates_with s mates)) p' asked
   pub long : length p' ≡ length (take (s.used + 1) (mates_with s mates))
 
 module _ {row : ℕ} {s : Seating} {rows columns mates : List ℕ} (K : Seeks row s rows columns mates) where
@@ -145,7 +147,8 @@ module _ {row : ℕ} {s : Seating} {rows columns mates : List ℕ} (K : Seeks ro
         (search_part s (R S) columns (p S) S.bench row K.low
         (bench_searches s (R S) columns (p S) S.bench row K.low columns' heavy' (omega (arith, S.bench.used, K.room)) index)))
 
-  module _ {columns' : List ℕ} {heavy' : Row} {v : ℕ} {p' : List ℕ} {asked : ℕ} (F : Searched row s rows mates columns' heavy' v p' asked) where
+  module _ {columns' : List ℕ} {heavy' : Row} {r : Option ℕ} {p' : List ℕ} {asked : ℕ}
+      (F : Searched row s rows mates columns' heavy' r p' asked) where
     -- the mates when the search is over
     abbrev mates' : List ℕ
     mates' = p' ++ drop (s.used + 1) (mates_with s mates)
@@ -163,25 +166,26 @@ module _ {row : ℕ} {s : Seating} {rows columns mates : List ℕ} (K : Seeks ro
       K.room,
     )
 
-    plain : OfSearch v (bits s.free) (R S ++ row ∷ []) (p S ++ zero ∷ []) p' asked
-    plain =
-        search_all s (R S) columns (p S) S.bench row K.low K.apart
-        (rw (F.is, rows_put S row K.low K.room, mates_put S row K.low K.room zero) at F.answer)
-
-    pub seek_found : v < width → (s' : Seating) → Reseated (searched_seats s heavy' s.dead) row v s'
+    pub seek_found : {v : ℕ} → r ≡ Some v → (s' : Seating) → Reseated (searched_seats s heavy' s.dead) row v s'
         → OfSeat row s rows s' (rows_with row s rows) columns' mates'
-    seek_found h s' T =
-        let k = plain.found h in
+    seek_found {v} is s' T =
+        let k = rw (is, F.is, rows_put S row K.low K.room, mates_put S row K.low K.room zero) at F.answer in
+        let free = (minus_out (bits s.free) (bits s.fresh) v k.1).0 in
         let bench =
         bench_other s (R S) columns (p S) S.bench columns' s.used heavy' s.dead (index F.index) S.bench.shut in
-        seat_more S row K.low K.room (searched_seats s heavy' s.dead) s' columns' v p' mates' refl refl bench k.0 k.1 seek_long
+        seat_more S row K.low K.room (searched_seats s heavy' s.dead) s' columns' v p' mates' refl refl bench free k.2 seek_long
         (take_at p' (drop (s.used + 1) (mates_with s mates)) (s.used + 1) long) T
 
     -- no value has got a row: the mates are as they were
-    module _ (none : width ≤ v) where
+    module _ (none : r ≡ None) where
+      plain : Failed (bits s.free) (R S ++ row ∷ []) (p S ++ zero ∷ []) p' asked
+      plain =
+          search_all s (R S) columns (p S) S.bench row K.low K.apart
+          (rw (none, F.is, rows_put S row K.low K.room, mates_put S row K.low K.room zero) at F.answer)
+
       mates_old : take s.used mates' ≡ p S
       mates_old =
-          ap (λ (l : List ℕ). take s.used (l ++ drop (s.used + 1) (mates_with s mates))) (plain.still none)
+          ap (λ (l : List ℕ). take s.used (l ++ drop (s.used + 1) (mates_with s mates))) plain.still
           ∙ ap (take s.used) (append_assoc (p S) (zero ∷ []) (drop (s.used + 1) (mates_with s mates)))
           ∙ take_at (p S) (zero ∷ drop (s.used + 1) (mates_with s mates)) s.used
           (length-take-le s.used mates (omega (arith, S.mates_wide, K.room)))
@@ -204,18 +208,33 @@ module _ {row : ℕ} {s : Seating} {rows columns mates : List ℕ} (K : Seeks ro
           few = S.few;
           bench = rw (rows_old S row K.low K.room, mates_old)
               (bench_other s (R S) columns (p S) S.bench columns' s.used heavy' dead (index F.index)
-              (failed_shut s (R S) columns (p S) S.bench row K.low v p' asked (bits dead) plain none plain_dead));
+              (failed_shut s (R S) columns (p S) S.bench row K.low p' asked (bits dead) plain plain_dead));
         };
         column = refl;
         either = inl (record {
           used = refl;
           rows_kept = rows_old S row K.low K.room;
-          why = inl (failed_row s (R S) columns (p S) S.bench row K.low v p' asked (bits dead) plain none plain_dead);
+          why = inl (failed_row s (R S) columns (p S) S.bench row K.low p' asked (bits dead) plain plain_dead);
         });
       }
         where
           plain_dead : Unreached asked (p S) (bits dead)
           plain_dead = subst (λ (l : List ℕ). Unreached asked l (bits dead)) mates_old D
+
+-- the words when the new row is stored, and the rows that the first of them hold
+module _ (new : Row) {s : Seating} (words : List ℕ) {columns mates : List ℕ} (K : Seeks (bits new) s (rows_of words) columns mates)
+    {words' : List ℕ} (put : words' ≡ put_row words s.used (bits new)) where
+  pub seek_stored : (length words' ≡ length words) × (rows_of words' ≡ rows_with (bits new) s (rows_of words))
+  seek_stored = rows_stored words words' s.used new put (omega (arith, K.room, K.sits.rows_wide))
+
+  there : (k : ℕ) → k ≤ seats → k ≤ length (rows_of words')
+  there k h = omega (arith, ap length seek_stored.1, rows_long K)
+
+  pub seek_fits : (k : ℕ) → k ≤ seats → k * row_words ≤ length words'
+  seek_fits k h = rows_end words' k (there k h)
+
+  pub seek_front : (k : ℕ) → k ≤ seats → rows_of (take (k * row_words) words') ≡ take k (rows_with (bits new) s (rows_of words))
+  seek_front k h = rows_take k words' (there k h) ∙ ap (take k) seek_stored.1
 
 -- the lowest value that the row has in common with others
 pub near_value : (row free : ℕ) (both : Row) (v : ℕ) → bits both ≡ bit_and row free → v ≡ count_trailing_zeros width (bits both) → bits both ≢ zero

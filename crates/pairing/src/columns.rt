@@ -14,10 +14,7 @@ fn enter(row: Row, i: usize, columns: &mut [u64])
     requires { (i < seats) × (length (rows_of columns.old) ≡ width) }
     ensures { Entered (bits row) i (rows_of columns.old) (rows_of columns.new) }
 {
-    let mut left = row;
-    while !left.is_empty() {
-        let v = left.lowest();
-        left = left.rest();
+    for v in row {
         let more = sets::row_at(columns, v).with(i);
         sets::put_row(columns, v, more);
     }
@@ -29,12 +26,8 @@ pub fn enter_light(entered: usize, heavy: Row, rows: &[u64], columns: &mut [u64]
     requires { (length (rows_of rows.now) ≤ seats) × Index (rows_of rows.now) (rows_of columns.old) (bits heavy) }
     ensures { Index (rows_of rows.now) (rows_of columns.new) (bits result) }
 {
-    let n = sets::row_count(rows);
     let mut left = heavy;
-    let mut next = entered;
-    while next < n {
-        let i = next;
-        next += 1;
+    for i in entered..sets::row_count(rows) {
         let row = sets::row_at(rows, i);
         if row.count() <= LIGHT {
             enter(row, i, columns);

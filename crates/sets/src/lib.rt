@@ -9,6 +9,7 @@ ghost use Rattle.sets.specs.Rows.{width, bits, Holds, tag_of};
 
 pub mod word; // word.rt: one word as a set
 mod lent; // lent.rt: the rows of lent words
+mod walk; // walk.rt: a walk through the values of a row
 
 pub use lent::{bad_row, put_row, row_at, row_count};
 

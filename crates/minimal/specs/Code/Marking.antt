@@ -1,6 +1,6 @@
 -- What the contracts say while the minimal rows of a view are marked: which values are rows of their own, how the other rows are chained,
 -- and which rows are judged. The marks they come to are `firsts` (the request, 'Which rows DISTINCT keeps').
-use Rattle.std.specs.Prelude.{ℕ, zero, suc, ◌+◌, ◌-◌, ◌*◌, ◌/◌, ◌%◌, ◌≤◌, ◌<◌, ◌≡◌, ◌≢◌, ◌⊎◌, Bool, true, false, List, length, set}
+use Rattle.std.specs.Prelude.{ℕ, zero, suc, ◌+◌, ◌-◌, ◌/◌, ◌%◌, ◌≤◌, ◌<◌, ◌≡◌, ◌≢◌, ◌⊎◌, Bool, true, false, List, length, set}
 use Rattle.std.specs.Int.Bits.{bit_or}
 use Rattle.std.specs.Int.Count.{ones}
 use Rattle.sets.specs.Limits.{word_bits}
@@ -71,12 +71,9 @@ pub record Scanned (r : Bool) (mins : List ℕ) (found x : ℕ) : Type 0 where
   pub none : r ≡ true → NoneWithin mins found x
   pub some : r ≡ false → SomeWithin mins found x
 
--- the words that the tags fill, and how many tags there is room for: a bit for each (no limits of the request)
+-- the words that the tags fill, a bit for each (no limit of the request)
 abbrev pub tag_words : ℕ
 tag_words = 8
-
-abbrev pub most_tags : ℕ
-most_tags = tag_words * word_bits
 
 -- the tag t is in a set of tags
 abbrev pub has_tag : List ℕ → ℕ → Bool

@@ -1,6 +1,6 @@
 -- What the contracts of the search speak of, in the words of `theory`: pairings, and the rows that were asked.
 -- A set of rows is held as a set of values is, by its places, so there are no more rows than there can be values.
-use Rattle.std.specs.Prelude.{ℕ, zero, suc, ◌≤◌, ◌<◌, ◌≡◌, ◌⊎◌, Bool, true, false, cond, List, length}
+use Rattle.std.specs.Prelude.{ℕ, zero, suc, ◌≤◌, ◌<◌, ◌≡◌, ◌⊎◌, Bool, true, false, cond, List, Option, Some, None, length}
 use Rattle.std.specs.Int.Bits.{bit_or}
 use Rattle.sets.specs.Sets.{has}
 use Rattle.sets.specs.Rows.{width}
@@ -73,9 +73,13 @@ pub record OfRow (r : Bool) (i v : ℕ) (rows p : List ℕ) (asked : ℕ) (p' : 
   pub stuck : r ≡ false → Stuck rows p asked p' asked'
   pub taken : r ≡ false → Taken rows p asked' i
 
--- what a search from the values of `free` answers: the value that has got a row, or `width`, which is no value, where none has
-pub record OfSearch (r free : ℕ) (rows p p' : List ℕ) (asked' : ℕ) : Type 0 where
-  pub found : r < width → (has free r ≡ true) × Grown rows r p p'
-  pub still : width ≤ r → p' ≡ p
-  pub closed : width ≤ r → (i : ℕ) → has asked' i ≡ true → Taken rows p asked' i
-  pub heard : width ≤ r → (v : ℕ) → has free v ≡ true → Heard width rows (has asked') v
+-- what a search from the values of `free` answers where none of them has got a row
+pub record Failed (free : ℕ) (rows p p' : List ℕ) (asked' : ℕ) : Type 0 where
+  pub still : p' ≡ p
+  pub closed : (i : ℕ) → has asked' i ≡ true → Taken rows p asked' i
+  pub heard : (v : ℕ) → has free v ≡ true → Heard width rows (has asked') v
+
+-- what a search from the values of `free` answers: the value that has got a row, or that none has
+abbrev pub OfSearch : Option ℕ → ℕ → List ℕ → List ℕ → List ℕ → ℕ → Type 0
+OfSearch (Some v) free rows p p' asked' = (v < width) × (has free v ≡ true) × Grown rows v p p'
+OfSearch None free rows p p' asked' = Failed free rows p p' asked'

@@ -2,9 +2,10 @@
 use Rattle.std.specs.Prelude.{ℕ, zero, suc, ◌+◌, ◌≤◌, ◌<◌, ◌≡◌, ◌≢◌, ◌⊎◌, Bool, true, false, List, [], ◌∷◌, ◌++◌, length, take}
 use Rattle.std.specs.Int.Bits.{bit_and, bit_or}
 use Rattle.sets.specs.Sets.{has, single, minus}
-use Rattle.sets.specs.Rows.{width, bits}
+use Rattle.sets.specs.Rows.{width, bits, rows_of}
 use Rattle.theory.specs.Pairings.{size, at, Seated, Pairing}
 use Rattle.pairing.specs.declared.seats.Seating.{Seating}
+use Rattle.pairing.specs.declared.seats.Seats.{Seats}
 use Rattle.pairing.specs.Code.Asking.{Inside, Index, Shut}
 
 -- how many seats there are: as many as a column can have values, for a row that sits has a value of its own
@@ -85,6 +86,16 @@ pub record OfSeat (row : ℕ) (s : Seating) (rows : List ℕ) (s' : Seating) (ro
   pub sits : Sitting s' rows' columns' mates'
   pub column : s'.d ≡ s.d
   pub either : Passed row s rows s' rows' ⊎ Raised row s rows s' rows'
+
+-- the same of the seats in the code's hands
+abbrev pub SitOn : Seats → Type 0
+SitOn s = Sitting s.seating (rows_of s.rows.now) (rows_of s.columns.now) s.mates.now
+
+-- r answers whether the row has got a seat
+pub record Answers (r : Bool) (row : ℕ) (s s' : Seats) : Type 0 where
+  pub seat : OfSeat row s.seating (rows_of s.rows.now) s'.seating (rows_of s'.rows.now) (rows_of s'.columns.now) s'.mates.now
+  pub more : r ≡ true → s.seating.used < s'.seating.used
+  pub same : r ≡ false → s'.seating.used ≤ s.seating.used
 
 -- r answers whether a row is passed over without a search
 pub record Hopeless (r : Bool) (row free dead : ℕ) : Type 0 where

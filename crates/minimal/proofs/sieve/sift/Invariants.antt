@@ -1,13 +1,7 @@
--- `minimal::sift` meets its contract. The invariant: `left` has the sizes of the rows that are not judged yet. Assumes nothing.
-use mathlib.Core.Path.{◌≡◌}
-use lib.ListN.{length}
+-- `minimal::sift` meets its contract. The invariant: the sizes of the rows that are not judged yet are those to come. Assumes nothing.
 use Rattle.sets.specs.Rows.{bits, rows_of}
 use Rattle.minimal.proofs.Sifting.{Levels}
 use Rattle.minimal.proofs.sieve.sift.Given as goal
 
-abbrev pub invariant-loop-head : goal.invariant-loop-head
-invariant-loop-head l =
-    Levels (rows_of l.rows) l.keep (rows_of l.mins) l.found (bits l.left) × (length l.mins ≡ length l.initial.mins)
-
-abbrev pub decreases-loop-head : goal.decreases-loop-head
-decreases-loop-head l = bits l.left
+abbrev pub invariant-loop-less : goal.invariant-loop-less
+invariant-loop-less l = Levels (rows_of l.rows) l.keep (rows_of l.mins) l.found (bits l.less-iterator.left)

@@ -1,66 +1,42 @@
--- `minimal::mark_singles` meets its contract. The invariant: the rows before `next` are passed. Assumes nothing.
-use Prim.Native.Nat.{ℕ, zero, ◌+◌, ◌<◌}
-use mathlib.Core.Path.{◌≡◌, sym, ap, ◌∙◌, subst}
-use mathlib.Core.Bool.{true}
+-- `minimal::mark_singles` meets its contract. The invariant: the rows before `i` are passed. Assumes nothing.
+use Prim.Native.Nat.{◌<◌}
+use mathlib.Core.Path.{◌≡◌, sym, ap, ◌∙◌}
 use native.Mathlib.Omega.{arith}
 use lib.Bits.{bit_or}
-use lib.ListN.{length, set}
+use lib.ListN.{length}
 use Rattle.sets.specs.Rows.{bits, rows_of}
 use Rattle.minimal.proofs.Apart.{meets_no, meets_yes}
-use Rattle.minimal.proofs.SingleRows.{Passed, pass_start, pass_again, pass_new, pass_done}
+use Rattle.minimal.proofs.SingleRows.{pass_start, pass_other, pass_again, pass_new, pass_done}
+use Rattle.minimal.proofs.singles.mark_singles.Goals.{then-is_single+then-not-meets, else-is_single}
+use Rattle.minimal.proofs.singles.mark_singles.Goals.{else-is_single-via-then-is_single+else-not-meets, else-is_single-via-else-is_single}
 use Rattle.minimal.proofs.singles.mark_singles.Goals as goal
-use Rattle.minimal.proofs.singles.mark_singles.Lts as lts
-use Rattle.minimal.proofs.singles.mark_singles.Tie as tie
-use Rattle.minimal.proofs.singles.mark_singles.Reads as reads
 
-abbrev At-loop : Type 0
-At-loop = lts.At-loop tie.the-claims reads.Pre reads.Post goal.the-invariant-loop-next goal.the-decreases-loop-next
+pub loop-i-init : goal.loop-i-init
+loop-i-init c = rw c.empty-singles.ensures.0 (pass_start _ _ c.requires.0 c.requires.1)
 
-abbrev In-loop : Type 0
-In-loop = lts.In-loop tie.the-claims reads.Pre reads.Post goal.the-invariant-loop-next goal.the-decreases-loop-next
-
-abbrev Start : Type 0
-Start = lts.Start tie.the-claims reads.Pre reads.Post goal.the-invariant-loop-next goal.the-decreases-loop-next
-
-abbrev start : At-loop → Start
-start l = l.before.before.before.before.before
-
--- the next row is one of the view
-inside : (c : In-loop) → c.loop-next.next < length (rows_of (start c.before).args.rows.now)
-inside c = omega arith
-
-pub loop-next-init : goal.loop-next-init
-loop-next-init c =
-    let rows = rows_of c.args.rows.now in
-    let keep = c.args.keep.now in
-    (omega arith, subst (Passed rows keep zero) (sym c.empty-singles.ensures.0) (pass_start rows keep c.requires.0 c.requires.1))
-
-pub loop-next-preserved-then-not-meets : goal.loop-next-preserved-then-not-meets
-loop-next-preserved-then-not-meets c =
-    let l = c.loop-next in
-    let e = start c.before.before.before.before.before.before.before.before in
-    let rows = rows_of e.args.rows.now in
+pub loop-i-preserved : goal.loop-i-preserved
+loop-i-preserved c =
+    let l = c.loop-i in
+    let here : l.i < length (rows_of c.args.rows.now) = omega arith in
     let same = c.row_at-x.ensures.0 in
-    let value = c.is_single.ensures.one c.if-is_single.true in
-    let apart = meets_no (bits l.singles) same c.meets.ensures (c.if-not-meets.true) in
-    let more = c.either-singles.ensures ∙ ap (bit_or (bits l.singles)) same in (
-      omega arith,
-      subst (Passed rows (set l.keep l.next true) (l.next + 1)) (sym more)
-          (pass_new l.invariant.1 (inside c.before.before.before.before.before.before.before) value.0 (sym same ∙ value.1) e.requires.2 apart),
-    )
-
-pub loop-next-preserved-else-not-meets : goal.loop-next-preserved-else-not-meets
-loop-next-preserved-else-not-meets c =
-    let l = c.loop-next in
-    let same = c.row_at-x.ensures.0 in
-    let value = c.is_single.ensures.one c.if-is_single.true in
-    let common = meets_yes (bits l.singles) same c.meets.ensures (c.if-not-meets.false) in
-    (omega arith, pass_again l.invariant.1 (inside c.before.before.before.before.before.before) value.0 (sym same ∙ value.1) common)
+    elim c.if-is_single.branch [
+      | then-is_single+then-not-meets w ↦
+          let value = c.is_single.ensures.one w.if-is_single.true in
+          let apart = meets_no (bits l.singles) same w.meets.ensures w.if-not-meets.true in
+          let more = w.either-singles.ensures ∙ ap (bit_or (bits l.singles)) same in
+          rw (w.keep-is, w.singles-is, more) (pass_new l.invariant here value.0 (sym same ∙ value.1) c.requires.2 apart)
+      | else-is_single w ↦ rw (w.keep-is, w.singles-is) (elim w.else-is_single.branch [
+        | else-is_single-via-then-is_single+else-not-meets w' ↦
+            let value = c.is_single.ensures.one w'.if-is_single.true in
+            let common = meets_yes (bits l.singles) same w'.meets.ensures w'.if-not-meets.false in
+            pass_again l.invariant here value.0 (sym same ∙ value.1) common
+        | else-is_single-via-else-is_single w' ↦
+            pass_other l.invariant here (λ v e. c.is_single.ensures.more w'.if-is_single.false v (same ∙ e))
+      ])
+    ]
 
 pub returns : goal.returns
 returns c =
-    let l = c.loop-next in
-    let rows = rows_of (start c.before.before).args.rows.now in
-    let all : l.next ≡ length rows = omega arith in
-    let P = subst (λ (n : ℕ). Passed rows l.keep n (bits l.singles)) all l.invariant.1 in
+    let all : c.loop-i.i ≡ length (rows_of c.args.rows.now) = omega arith in
+    let P = rw all at c.loop-i.invariant in
     (P.singles, pass_done P)

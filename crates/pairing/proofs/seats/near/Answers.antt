@@ -8,16 +8,16 @@ use Rattle.sets.proofs.Values.{has-and}
 use Rattle.pairing.proofs.SeatSteps.{near_value}
 use Rattle.pairing.proofs.seats.near.Goals as goal
 
-pub returns-then-not-is_empty : goal.returns-then-not-is_empty
-returns-then-not-is_empty c =
+pub returns-then-is_empty : goal.returns-then-is_empty
+returns-then-is_empty c =
+    let both = c.both.ensures in
+    near_value (bits c.args.row) (bits c.args.free) _ _ both c.lowest.ensures (λ z. c.requires.0 (sym both ∙ z))
+
+pub returns-else-is_empty : goal.returns-else-is_empty
+returns-else-is_empty c =
     let row = bits c.args.row in
     let fresh = bits c.args.fresh in
-    let v = c.lowest.result in
-    let some = eqb-false _ _ (sym c.is_empty.ensures ∙ c.if-not-is_empty.true) in
-    let t = near_value row fresh _ v c.both-new.ensures c.lowest.ensures some in
+    let v = c.lowest-else-is_empty.result in
+    let some = eqb-false _ _ (sym c.is_empty.ensures ∙ c.if-is_empty.false) in
+    let t = near_value row fresh _ v c.both-new.ensures c.lowest-else-is_empty.ensures some in
     (t.0, c.requires.1 v (has-and row fresh v ∙ and_both (has row v) (has fresh v) t.2 t.1), t.2)
-
-pub returns : goal.returns
-returns c =
-    let both = c.both.ensures in
-    near_value (bits c.args.row) (bits c.args.free) _ _ both c.lowest-2.ensures (λ z. c.requires.0 (sym both ∙ z))

@@ -1,5 +1,5 @@
 -- `sets::lent::bad_row` meets its contract. The invariant: the rows from i on decide. Assumes nothing.
-use Prim.Native.Nat.{◌≤◌, ◌-◌}
+use Prim.Native.Nat.{◌≤◌}
 use mathlib.Core.Path.{◌≡◌}
 use lib.ListN.{length, drop}
 use Rattle.sets.specs.Rows.{rows_of}

@@ -1,11 +1,11 @@
--- `offer` meets its contract. Assumes nothing.
+-- `Seats::offer` meets its contract. Assumes nothing.
 use mathlib.Core.Path.{sym, ◌∙◌}
 use borrow.Author.Tests.{eqb-true, not-false}
 use Rattle.pairing.proofs.SeatSteps.{seat_room}
-use Rattle.pairing.proofs.seats.offer.Goals as goal
+use Rattle.pairing.proofs.seats.Seats.offer.Goals as goal
 
-pub seek-requires : goal.seek-requires
-seek-requires c =
+pub seek-self-requires : goal.seek-self-requires
+seek-self-requires c =
     record {
       sits = c.requires.0;
       low = c.requires.1;
