@@ -20,7 +20,7 @@ impl<'a> Reader<'a> {
         Reader { file, at: 0 }
     }
 
-    // The next row, or that there are no more; the cursor moves on.
+    // The next row, or that there are no more; the cursor moves on. (No `Iterator`: `next_contract` is a theorem about this contract.)
     pub fn next(&mut self) -> Option<Row>
         ensures { (result ≡ (step_at self.old.file.now self.old.at).row)
             × (self.new ≡ moved self.old) }

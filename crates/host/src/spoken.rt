@@ -25,7 +25,7 @@ pub struct Handed {
     pub sheet: Sheet,
 }
 
-// The call of a kind and its argument, or that there is none.
+// The call of a kind and its argument, or that there is none. (A kind is a number, since enums don't pass to C.)
 #[tactic(auto, unfolding(crate::specs::Spoken::asked_by))]
 pub fn heard(kind: u64, n: u64) -> Option<Call>
     ensures { result ≡ asked_by kind n }

@@ -1,4 +1,5 @@
 // What hosts in C link: each function of `host` by its name, with the same clauses. include/foliokettle.h declares them.
+// (A static library exports functions of its own alone, and the clauses of each are stated there.)
 #![tactic(auto)]
 
 ghost use Rattle.std.specs.Prelude.{◌≡◌, length};

@@ -36,6 +36,7 @@ fn none_within(mins: &[u64], found: usize, x: Row) -> bool
 }
 
 // Judges the chained rows of k values: one that has no subset among the minimal rows found so far is minimal too.
+// (The walk follows links, not an index, and so it is a `while`.)
 fn level(
     rows: &[u64],
     chained: &Chained,
