@@ -1,5 +1,5 @@
 // What a desk sees: the table rows that it does not hide, then its own.
-ghost use Rattle.std.specs.Prelude.{◌≡◌, ℕ, Bool, not, ◌<◌, ◌≤◌, ◌+◌, length};
+ghost use Rattle.std.specs.Prelude.{◌≡◌, ℕ, Bool, ◌<◌, ◌≤◌, ◌+◌, length};
 ghost use Rattle.sets.specs.Limits.{most_rows, most_desks, most_places, most_held, most_in_view};
 ghost use Rattle.sets.specs.Rows.{rows_of};
 ghost use Rattle.sheet.specs.Upto.{count_to, those};
@@ -43,20 +43,14 @@ pub fn gather(table: &[u64], sheet: &Sheet, desk: usize, rows: &mut [u64]) -> us
     let seen = put_those(
         table,
         sets::row_count(table),
-        |i|
-            requires { (desk < most_desks) × (i < most_rows) }
-            ensures { result ≡ not (hides sheet.entry.now.marks desk i) }
-        { !sheet.hides(desk, i) },
+        |i| !sheet.hides(desk, i),
         0,
         rows,
     );
     put_those(
         &sheet.sets,
         sheet.used,
-        |i|
-            requires { i < most_places }
-            ensures { result ≡ owns sheet.entry.now.owners desk i }
-        { sheet.owners[i] == desk },
+        |i| sheet.owners[i] == desk,
         seen,
         rows,
     )

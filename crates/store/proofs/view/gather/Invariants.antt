@@ -1,4 +1,4 @@
--- `gather` calls `put_those` for the table rows that the desk does not hide, then for the desk's own.
+-- `gather` meets its contract. The tests of its two calls: the table rows that the desk does not hide, then the places of the desk. Assumes nothing.
 use Rattle.std.specs.Prelude.{ℕ, not}
 use Rattle.sheet.specs.Sheets.{owns, hides}
 use Rattle.store.proofs.view.gather.Given as goal

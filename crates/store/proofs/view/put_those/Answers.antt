@@ -9,23 +9,18 @@ pub loop-i-init : goal.loop-i-init
 loop-i-init g c = gathered_start
 
 pub put_row-requires : goal.put_row-requires
-put_row-requires g c =
-    gathered_room c.loop-i.invariant c.args.many c.loop-i-test.true
-    (sym (c.requires.1.0.told _ _ c.loop-i-test.true c.passes.ensures) ∙ c.if-passes.true) (omega arith)
+put_row-requires g c = grind (arith, gathered_room)
 
 pub overflow_add-n : goal.overflow_add-n
-overflow_add-n g c =
-    let room = gathered_room c.loop-i.invariant c.args.many c.loop-i-test.true
-    (sym (c.requires.1.0.told _ _ c.loop-i-test.true c.passes.ensures) ∙ c.if-passes.true) (omega arith) in
-    record { fits = omega (arith, room, rows_length c.loop-i.rows) }
+overflow_add-n g c = record { fits = grind (arith, gathered_room, rows_length c.loop-i.rows) }
 
 pub loop-i-preserved : goal.loop-i-preserved
 loop-i-preserved g c =
-    let is = c.requires.1.0.told _ _ c.loop-i-test.true c.passes.ensures in
+    let told = c.requires.1.0.told _ _ c.loop-i-test.true c.passes.ensures in
     elim c.if-passes.branch [
       | then-passes w ↦
-          (let passes = sym is ∙ w.if-passes.true in
+          (let passes = sym told ∙ w.if-passes.true in
           let room = gathered_room c.loop-i.invariant c.args.many c.loop-i-test.true passes (omega arith) in
           rw (w.n-is, w.rows-is) (gathered_more c.loop-i.invariant passes room _ w.row_at.ensures.0 w.put_row.ensures))
-      | else-passes w ↦ rw (w.n-is, w.rows-is) (gathered_pass c.loop-i.invariant (sym is ∙ w.if-passes.false))
+      | else-passes w ↦ rw (w.n-is, w.rows-is) (gathered_pass c.loop-i.invariant (sym told ∙ w.if-passes.false))
     ]
