@@ -73,22 +73,24 @@ module _ {f : ℕ → Bool} {from : List ℕ} {start : ℕ} {old : List ℕ} whe
     gathered_room = filled_room G.filled
 
 -- both parts make the view
-pub viewed : {table : List ℕ} {hid g : ℕ → Bool} {sets : List ℕ} {used : ℕ} {old : List ℕ} {seen : ℕ} {rows : List ℕ} {n : ℕ} {rows' : List ℕ}
-    → Filled (λ i. not (hid i)) table (length table) zero old seen rows → Filled g sets used seen rows n rows' → n ≤ most_in_view
+pub viewed : {table : List ℕ} {many : ℕ} {hid g : ℕ → Bool} {sets : List ℕ} {used : ℕ} {old : List ℕ} {seen : ℕ} {rows : List ℕ} {n : ℕ} {rows' : List ℕ}
+    → many ≡ length table → Filled (λ i. not (hid i)) table many zero old seen rows → Filled g sets used seen rows n rows' → n ≤ most_in_view
     → length old ≡ most_in_view → Viewed table hid (those g sets used) n rows'
 unfolding view
-viewed {table} {hid} {g} {sets} {used} T O most long =
+viewed {table} {many} {hid} {g} {sets} {used} all T O most long =
     let f : ℕ → Bool = λ i. not (hid i) in
+    let counted : count_to f many ≡ count_to f (length table) = ap (count_to f) all in
     record {
       count = omega (
         arith,
         T.count,
+        counted,
         O.count,
         length-append (those f table (length table)) (those g sets used),
         length-those f table (length table),
         length-those g sets used,
       );
-      is = O.is ∙ ap (λ (l : List ℕ). l ++ those g sets used) T.is;
+      is = O.is ∙ ap (λ (l : List ℕ). l ++ those g sets used) (T.is ∙ ap (those f table) all);
       most = most;
       long = O.long ∙ T.long ∙ long;
     }

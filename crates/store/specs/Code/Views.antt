@@ -1,8 +1,13 @@
 -- What it is to gather a view.
-use Rattle.std.specs.Prelude.{ℕ, ◌+◌, ◌≤◌, ◌≡◌, Bool, List, ◌++◌, length, take}
+use Rattle.std.specs.Prelude.{ℕ, ◌+◌, ◌<◌, ◌≤◌, ◌≡◌, Bool, List, ◌++◌, length, take}
 use Rattle.sets.specs.Limits.{most_in_view}
 use Rattle.sheet.specs.Upto.{count_to, those}
 use Rattle.store.specs.Desks.{view}
+
+-- the code of a test may be asked about each number below n, and answers what the test f says
+pub record Decides (may : ℕ → Type 0) (answers : ℕ → Bool → Type 0) (f : ℕ → Bool) (n : ℕ) : Type 0 where
+  pub asked : (i : ℕ) → i < n → may i
+  pub told : (i : ℕ) (b : Bool) → i < n → answers i b → b ≡ f i
 
 -- behind the first `start` rows stand those of the first n of `from` that pass the test, which makes `end` rows
 pub record Filled (f : ℕ → Bool) (from : List ℕ) (n start : ℕ) (old : List ℕ) (end : ℕ) (rows : List ℕ) : Type 0 where

@@ -1,33 +1,26 @@
 -- `gather` meets its contract: the table's part, then the desk's own. Assumes nothing.
-use Prim.Native.Nat.{ℕ, ◌≤◌}
-use mathlib.Core.Path.{◌∙◌}
-use mathlib.Core.Bool.{Bool, not}
-use native.Mathlib.Omega.{arith}
-use lib.ListN.{length}
-use Rattle.sets.specs.Limits.{most_rows}
-use Rattle.sets.specs.Rows.{rows_of}
+use Rattle.std.proofs.Common.{ℕ, zero, ◌≤◌, Bool, not, List, arith, rules}
 use Rattle.sheet.specs.Sheets.{hides}
 use Rattle.sheet.proofs.UptoLaws.{count-le}
+use Rattle.sheet.proofs.PlaceRows.{place_rows}
+use Rattle.store.specs.Code.Views.{Filled}
 use Rattle.store.proofs.Gathering.{viewed}
 use Rattle.store.proofs.view.gather.Goals as goal
-use Rattle.store.proofs.view.gather.Lts as lts
-use Rattle.store.proofs.view.gather.Tie as tie
-use Rattle.store.proofs.view.gather.Reads as reads
 
-abbrev After-put_table : Type 0
-After-put_table = lts.After-put_table tie.the-claims reads.Pre reads.Post
+-- no more rows are seen than there are
+few : {f : ℕ → Bool} {from old rows : List ℕ} {many end : ℕ} → Filled f from many zero old end rows → end ≤ many
+few {f} {many = many} F = omega (arith, F.count, count-le f many)
 
--- no more than the whole table is seen
-few-seen : (c : After-put_table) → c.put_table-seen.result ≤ most_rows
-few-seen c =
-    let shown : ℕ → Bool = λ i. not (hides c.args.sheet.now.marks c.args.desk i) in
-    omega (arith, c.put_table-seen.ensures.count, count-le shown (length (rows_of c.args.table.now)), c.requires.1)
+pub put_those-seen-requires : goal.put_those-seen-requires
+put_those-seen-requires c κs within =
+    search (rules, arith, count-le (λ i. not (hides c.args.sheet.now.marks c.args.desk i)) c.row_count.result)
 
-pub put_own-requires : goal.put_own-requires
-put_own-requires c =
-    (c.requires.2, c.put_table-seen.ensures.long ∙ c.requires.4, omega (arith, few-seen c.before.before.before.before, c.requires.3))
+pub put_those-requires : goal.put_those-requires
+put_those-requires c κs within =
+    search (rules, arith, few c.put_those-seen.ensures, place_rows c.args.sheet.now.sets (search rules))
 
 pub returns : goal.returns
 returns c =
-    viewed c.put_table-seen.ensures c.put_own.ensures
-    (omega (arith, few-seen c.before.before.before.before.before.before.before, c.put_own.ensures.count, c.requires.3)) c.requires.4
+    let seen = few c.put_those-seen.ensures in
+    viewed {hid = hides c.args.sheet.now.marks c.args.desk} c.row_count.ensures c.put_those-seen.ensures c.put_those.ensures
+    (omega (arith, seen, c.put_those.ensures.count)) c.requires.4
