@@ -142,8 +142,9 @@ static volatile uint64_t sink;
 /* ---- bytes: memcpy, memmove and memset are wrapped by the linker. A sheet that is handed on once more shows as one
    sheet more, and then the count fails. The host's own copy of the sheet into the call is counted with the call. */
 
-/* Into the call, into its own arrays and back; in place there is one more, since the entry takes the sheet apart. */
-enum { MOST_CALL = 3, MOST_ALTER = 4 };
+/* By value: into the call, into its own sheet, into what is handed back, and back. In place: into the core and back, and
+   into the host's sheet. Beside the sheet a call copies some counts, less than a tenth of a sheet. */
+enum { MOST_CALL = 4, MOST_ALTER = 3 };
 
 static size_t copied, cleared;
 static int counting, relapsed;
@@ -176,7 +177,7 @@ static void count_bytes(void (*call)(const measured *), const measured *m, size_
     counting = 1;
     call(m);
     counting = 0;
-    if (copied > most * sizeof start) relapsed = 1;
+    if (copied > most * sizeof start + sizeof start / 10) relapsed = 1;
     printf(" %6zu | %4.1f | %6zu |", copied, (double)copied / sizeof start, cleared);
 }
 
