@@ -150,7 +150,8 @@ module _ (old rows : List ℕ) where
 
       more : row_bytes (take (n + 1) rows) ≡ row_bytes (take n rows) ++ in_bytes 8 row
       more =
-          ap (λ (k : ℕ). row_bytes (take k rows)) (add-one n) ∙ ap row_bytes (take-suc rows n 0 h) ∙ row_bytes-append (take n rows) (get_or rows n 0 ∷ [])
+          ap (λ (k : ℕ). row_bytes (take k rows)) (add-one n) ∙ ap row_bytes (take-suc rows n 0 h)
+          ∙ row_bytes-append (take n rows) (get_or rows n 0 ∷ [])
           ∙ ap (λ (l : List ℕ). row_bytes (take n rows) ++ l) (append-nil (in_bytes 8 (get_or rows n 0)) ∙ ap (in_bytes 8) (sym e))
 
       all : take 8 old ++ row_bytes (take n rows) ++ in_bytes 8 row ≡ take 8 old ++ row_bytes (take (n + 1) rows)

@@ -68,7 +68,8 @@ module _ (file : List ℕ) (d t : ℕ) (bytes : AreBytes file) (read : judged fi
   row_again i h =
       let row = get_or (cells_in file) i 0 in
       let part = row_part d (cells_in file) i (omega (arith, h, rows_count file d t read)) in
-      ap (λ (n : ℕ). take n (drop (8 + 8 * i) (file_of d (cells_in file)))) (sym (bytes_length 8 row)) ∙ part_taken (in_bytes 8 row) (8 + 8 * i) _ part
+      ap (λ (n : ℕ). take n (drop (8 + 8 * i) (file_of d (cells_in file)))) (sym (bytes_length 8 row))
+      ∙ part_taken (in_bytes 8 row) (8 + 8 * i) _ part
       ∙ ap (in_bytes 8) (list_at (cell_in file) (count_in file) i (omega (arith, h, facts.count)))
 
   saved_again : SameButUnknown d t file (file_of d (cells_in file))
@@ -88,7 +89,8 @@ module _ (file : List ℕ) (d t : ℕ) (bytes : AreBytes file) (read : judged fi
 
 -- ---- read into a list, and written to a buffer
 
-module _ (file list buffer : List ℕ) (d t : ℕ) (answer : read_answer file (length (rows_of list)) ≡ Ok (d, t)) (room : length file ≤ length buffer) where
+module _ (file list buffer : List ℕ) (d t : ℕ) (answer : read_answer file (length (rows_of list)) ≡ Ok (d, t))
+    (room : length file ≤ length buffer) where
   abbrev rows : List ℕ
   rows = take t (rows_of (filled file list (Ok (d, t))))
 

@@ -34,7 +34,8 @@ lowest_has (suc k) n h ne = elim (low_digit n) [
   | inl e ↦
       let half : n / 2 < 2 ^ k = (div-lt_iff_lt-mul (zero-lt-suc 1)).1 (rw pow-suc at h) in
       let ih = lowest_has k (n / 2) half (λ z. ne (omega (arith, z, e))) in
-      let is : under (n % 2) (count_trailing_zeros k (n / 2)) ≡ suc (count_trailing_zeros k (n / 2)) = ap (λ (x : ℕ). under x (count_trailing_zeros k (n / 2))) e in
+      let is : under (n % 2) (count_trailing_zeros k (n / 2)) ≡ suc (count_trailing_zeros k (n / 2))
+      = ap (λ (x : ℕ). under x (count_trailing_zeros k (n / 2))) e in
       (omega (arith, is, ih.0), ap (has n) is ∙ has-suc n (count_trailing_zeros k (n / 2)) ∙ ih.1)
 ]
 
@@ -47,7 +48,8 @@ lowest_least (suc k) n v h = elim (low_digit n) [
   | inl e ↦ subst (λ (x : ℕ). under x (count_trailing_zeros k (n / 2)) ≤ v) (sym e) (higher v h e (λ u t. lowest_least k (n / 2) u t))
 ]
   where
-    higher : (v : ℕ) → has n v ≡ true → n % 2 ≡ 0 → ((u : ℕ) → has (n / 2) u ≡ true → count_trailing_zeros k (n / 2) ≤ u) → suc (count_trailing_zeros k (n / 2)) ≤ v
+    higher : (v : ℕ) → has n v ≡ true → n % 2 ≡ 0 → ((u : ℕ) → has (n / 2) u ≡ true → count_trailing_zeros k (n / 2) ≤ u)
+        → suc (count_trailing_zeros k (n / 2)) ≤ v
     higher zero h e rec = absurd (let one : n % 2 ≡ 1 = eqb-true (n % 2) 1 (sym (has-zero n) ∙ h) in omega (arith, one, e))
     higher (suc u) h e rec = let l = rec u (sym (has-suc n u) ∙ h) in omega (arith, l)
 

@@ -127,7 +127,8 @@ pub words-length : (rows : List ℕ) → length (in_words rows) ≡ length rows 
 unfolding in_words
 words-length [] = sym (zero-mul row_words)
 words-length (r ∷ rows) =
-    length-append (words_of (as_row r)) (in_words rows) ∙ omega (arith, words_of-length (as_row r), words-length rows, suc-mul (length rows) row_words)
+    length-append (words_of (as_row r)) (in_words rows)
+    ∙ omega (arith, words_of-length (as_row r), words-length rows, suc-mul (length rows) row_words)
 
 pub words_append : (xs bs : List ℕ) → in_words (xs ++ bs) ≡ in_words xs ++ in_words bs
 unfolding in_words

@@ -33,7 +33,8 @@ words_from (suc n) ws j = get_or ws j 0 ∷ words_from n ws (suc j)
 
 window : (n : ℕ) (ws : List ℕ) (j : ℕ) → j + n ≤ length ws → take n (drop j ws) ≡ words_from n ws j
 window zero ws j h = refl
-window (suc n) ws j h = ap (take (suc n)) (drop-cons ws j 0 (omega arith)) ∙ ap (λ (r : List ℕ). get_or ws j 0 ∷ r) (window n ws (suc j) (omega arith))
+window (suc n) ws j h =
+    ap (take (suc n)) (drop-cons ws j 0 (omega arith)) ∙ ap (λ (r : List ℕ). get_or ws j 0 ∷ r) (window n ws (suc j) (omega arith))
 
 -- ---- the first k rows
 
@@ -115,7 +116,8 @@ module _ (n : ℕ) (some : 0 < n) where
   unfolding rows_in
   in_less ws i = from_less n (length ws / n) i ws
 
-  pub in_put : (ws xs : List ℕ) (i : ℕ) → i < length (rows_in n ws) → length xs ≡ n → rows_in n (sets ws (i * n) xs) ≡ set (rows_in n ws) i (bits_of xs)
+  pub in_put : (ws xs : List ℕ) (i : ℕ) → i < length (rows_in n ws) → length xs ≡ n
+      → rows_in n (sets ws (i * n) xs) ≡ set (rows_in n ws) i (bits_of xs)
   unfolding rows_in
   in_put ws xs i h e =
       ap (λ (x : ℕ). rows_from n (x / n) (sets ws (i * n) xs)) (length-sets ws (i * n) xs)

@@ -52,13 +52,15 @@ unfolding decided
 not_given b r a e = rw e
 
 -- where the answer's number is x: a first case of another number does not apply, and the one case does where the answer behind it has another number
-pub skipped : (x : ℕ) (b : Bool) (r : Refusal) (cs : List Case) (a : Result Answer Refusal) → number r ≢ x → number_of (decided Err ((b gives r) ∷ cs) a) ≡ x
+pub skipped : (x : ℕ) (b : Bool) (r : Refusal) (cs : List Case) (a : Result Answer Refusal) → number r ≢ x
+    → number_of (decided Err ((b gives r) ∷ cs) a) ≡ x
     → (b ≡ false) × (number_of (decided Err cs a) ≡ x)
 unfolding decided
 skipped x true r cs a ne e = absurd (ne e)
 skipped x false r cs a ne e = (refl, e)
 
-pub applied : (x : ℕ) (b : Bool) (r : Refusal) (a : Result Answer Refusal) → number_of a ≢ x → number_of (decided Err ((b gives r) ∷ []) a) ≡ x → b ≡ true
+pub applied : (x : ℕ) (b : Bool) (r : Refusal) (a : Result Answer Refusal) → number_of a ≢ x
+    → number_of (decided Err ((b gives r) ∷ []) a) ≡ x → b ≡ true
 unfolding decided
 applied x true r a ne e = refl
 applied x false r a ne e = absurd (ne e)

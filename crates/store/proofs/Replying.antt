@@ -31,7 +31,8 @@ use Rattle.store.specs.Desks.{serve, written, list_after}
 use Rattle.sets.specs.Limits.{most_rows, most_desks, most_places, promised}
 use Rattle.refusals.specs.TableCases.{table_cases}
 use Rattle.theory.specs.Pairings.{at}
-use Rattle.store.specs.Calls.{begin_cases, desk_cases, sheet_cases, crowded, begun_answer, begun_sheet, begun, answered, changed, sheet_after, replied, told}
+use Rattle.store.specs.Calls.{begin_cases, desk_cases, sheet_cases, crowded, begun_answer, begun_sheet, begun}
+use Rattle.store.specs.Calls.{answered, changed, sheet_after, replied, told}
 use Rattle.store.specs.Code.Serving.{Trusted, Served, Possible, Responded, CarriedOut}
 use Rattle.refusals.proofs.Outcomes.{stands, refuses}
 use Rattle.refusals.proofs.TablesJudged.{judgement, judged_right, judged_refused, refused_first, passed_first}

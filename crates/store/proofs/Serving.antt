@@ -58,7 +58,8 @@ module _ {d : ℕ} {table : List ℕ} {s : Sheet} {counts : List ℕ} {k : ℕ} 
 
   -- ---- a change, by the counts
 
-  pub judged-take : (n : ℕ) (r : Result (Unit {0}) Refusal) → r ≡ decided Err (row_cases (at counts k) n) (Ok tt) → ChangeJudged d table s k (Delete (Own n)) r
+  pub judged-take : (n : ℕ) (r : Result (Unit {0}) Refusal) → r ≡ decided Err (row_cases (at counts k) n) (Ok tt)
+      → ChangeJudged d table s k (Delete (Own n)) r
   judged-take n r a = rw (sym mine) a
 
   pub judged_insert : (row : Row) (owes : ℕ) → owes ≡ sum_to (λ j. promised - at counts j) s.desks → (r : Result (Unit {0}) Refusal)

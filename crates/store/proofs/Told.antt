@@ -55,7 +55,8 @@ module _ (table : List ℕ) (hid hid' : ℕ → Bool) (own : List ℕ) (same : (
   serve_same d full places (Do Reset) = refl
   serve_same d full places (Ask q) = rw view_same
 
-  pub telling_same : (d : ℕ) (c : Call) (list : List ℕ) (a : Result Answer Refusal) → telling d table hid own c list a ≡ telling d table hid' own c list a
+  pub telling_same : (d : ℕ) (c : Call) (list : List ℕ) (a : Result Answer Refusal)
+      → telling d table hid own c list a ≡ telling d table hid' own c list a
   unfolding written
   telling_same d (Do c) list a = refl
   telling_same d (Ask q) list a = rw view_same
@@ -101,7 +102,8 @@ module _ (d : ℕ) (table : List ℕ) (full : Bool) (places : ℕ) (hid : ℕ �
       )
   serve_ten (Do Reset) e = absurd (omega arith)
   serve_ten (Ask (Look n)) e =
-      absurd (omega (arith, (skipped 10 (leb (length (view table hid own)) n) NoRow [] (Ok (Seen (as_row (at (view table hid own) n)))) (omega arith) e).1))
+      let shown = Ok (Seen (as_row (at (view table hid own) n))) in
+      absurd (omega (arith, (skipped 10 (leb (length (view table hid own)) n) NoRow [] shown (omega arith) e).1))
   serve_ten (Ask Count) e = absurd (omega arith)
   serve_ten (Ask Distinct) e =
       let a : Result Answer Refusal = Ok (Listed (length (kept d (view table hid own)))) in

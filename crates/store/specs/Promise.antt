@@ -1,5 +1,6 @@
 -- Demand 3, as a promise about any store: it names no sheet, only turns, what is told, and what follows from them.
-use Rattle.std.specs.Prelude.{ℕ, suc, ◌+◌, ◌-◌, ◌≤◌, ◌<◌, ◌≡◌, ◌≢◌, ◌↔◌, Bool, true, false, cond, ◌&&◌, ◌||◌, List, [], ◌∷◌, ◌++◌, eqb, leb, ltb, length, take, drop, Err}
+use Rattle.std.specs.Prelude.{ℕ, suc, ◌+◌, ◌-◌, ◌≤◌, ◌<◌, ◌≡◌, ◌≢◌, ◌↔◌, Bool, true, false, cond, ◌&&◌, ◌||◌}
+use Rattle.std.specs.Prelude.{List, [], ◌∷◌, ◌++◌, eqb, leb, ltb, length, take, drop, Err}
 use Rattle.sets.specs.Limits.{most_places, most_held, promised}
 use Rattle.sets.specs.Sets.{within}
 use Rattle.sets.specs.Rows.{bits}

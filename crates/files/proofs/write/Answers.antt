@@ -12,10 +12,14 @@ use Rattle.files.proofs.TablesSaved.{still_refused, short, saved}
 use Rattle.files.proofs.write.Goals as goal
 
 pub overflow_mul-length : goal.overflow_mul-length
-overflow_mul-length c = record { fits = omega (arith, (right_parts most_rows _ _ (judged_right _ (sym c.judge.ensures ∙ c.in_ok-judge.was))).small, c.row_count-t.ensures) }
+overflow_mul-length c =
+    let right = judged_right _ (sym c.judge.ensures ∙ c.in_ok-judge.was) in
+    record { fits = omega (arith, (right_parts most_rows _ _ right).small, c.row_count-t.ensures) }
 
 pub overflow_add-length : goal.overflow_add-length
-overflow_add-length c = record { fits = omega (arith, (right_parts most_rows _ _ (judged_right _ (sym c.judge.ensures ∙ c.in_ok-judge.was))).small, c.row_count-t.ensures) }
+overflow_add-length c =
+    let right = judged_right _ (sym c.judge.ensures ∙ c.in_ok-judge.was) in
+    record { fits = omega (arith, (right_parts most_rows _ _ right).small, c.row_count-t.ensures) }
 
 pub returns-then-buffer-length : goal.returns-then-buffer-length
 returns-then-buffer-length c =

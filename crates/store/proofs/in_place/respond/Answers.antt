@@ -17,7 +17,8 @@ pub returns-in_err-known : goal.returns-in_err-known
 returns-in_err-known c =
     let left = err_from_is_err_and c.from_residual-in_err-known.result c.from_residual-in_err-known.ensures.1 in
     rw (left.1 ∙ ap Err left.2)
-    (desk_refused _ _ _ _ _ _ (sym c.judge.ensures ∙ c.in_ok-judge.was) c.in-Some.ensures.0 _ (rw c.row_count.ensures at (sym c.in_err-known.ensures)))
+    (desk_refused _ _ _ _ _ _ (sym c.judge.ensures ∙ c.in_ok-judge.was) c.in-Some.ensures.0 _
+    (rw c.row_count.ensures at (sym c.in_err-known.ensures)))
 
 pub serve-requires : goal.serve-requires
 serve-requires c =
