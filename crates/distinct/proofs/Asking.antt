@@ -1,14 +1,13 @@
 -- What any caller is answered, case by case, and what is known of a view that may be asked about. Assumes nothing.
-use Prim.Native.Nat.{ℕ, zero, suc, ◌<◌, ◌≤◌}
-use mathlib.Core.Path.{◌≡◌, refl, ap, ◌∙◌}
-use mathlib.Core.Bool.{Bool, false, cond}
+use Prim.Native.Nat.{ℕ, ◌<◌, ◌≤◌}
+use mathlib.Core.Path.{◌≡◌, ap, ◌∙◌}
+use mathlib.Core.Bool.{Bool, cond}
 use mathlib.Core.List.{List}
 use lib.Dec.{ltb}
-use lib.ListN.{length, replicate, take}
+use lib.ListN.{length}
 use borrow.Author.Tests.{lt-ltb, le-ltb}
 use Rattle.sets.specs.Limits.{most_in_view}
 use Rattle.sets.proofs.BadRows.{bad_row-none}
-use Rattle.minimal.specs.Code.Marking.{NoMarks}
 use Rattle.theory.specs.Kept.{kept}
 use Rattle.refusals.specs.declared.Refusal.{Refusal}
 use Rattle.refusals.specs.declared.Refusal.TheVariants.{ShortList}
@@ -43,12 +42,3 @@ module _ (d : ℕ) (view : List ℕ) where
     may_ask list room =
         let parts = right_parts most_in_view d view right in
         record { few = parts.small; room = room; column = record { column = parts.values; rows_within = bad_row-none d view parts.none_bad } }
-
--- ---- no marks at first
-
-pub no_marks : (n k : ℕ) → NoMarks (take k (replicate n false))
-no_marks zero zero j = refl
-no_marks zero (suc k) j = refl
-no_marks (suc n) zero j = refl
-no_marks (suc n) (suc k) zero = refl
-no_marks (suc n) (suc k) (suc j) = no_marks n k j

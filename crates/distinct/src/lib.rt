@@ -1,12 +1,13 @@
 // DISTINCT over a view: the minimal rows, then the other rows in view order, then the kept positions.
 #![tactic(auto)]
 
-ghost use Rattle.std.specs.Prelude.{◌≡◌, ◌++◌, length, drop};
-ghost use Rattle.sets.specs.Rows.{rows_of};
+ghost use Rattle.std.specs.Prelude.{◌≡◌, ◌≤◌, ◌*◌, ◌++◌, length, drop};
+ghost use Rattle.sets.specs.Limits.{most_in_view};
+ghost use Rattle.sets.specs.Rows.{row_words, rows_of};
 ghost use Rattle.theory.specs.Kept.{kept};
-ghost use Rattle.minimal.specs.Code.Marking.{NoMarks};
+ghost use Rattle.pairing.specs.Code.Seats.{seats};
 ghost use Rattle.distinct.specs.Asked.{ask_answer, listed};
-ghost use Rattle.distinct.specs.Code.Steps.{Askable, Places};
+ghost use Rattle.distinct.specs.Code.Steps.{Askable};
 
 use refusals::{Refusal, tables};
 use sheet::Sheet;
@@ -15,21 +16,27 @@ use steps::SEATS;
 mod steps; // steps.rt: the two steps, on marks
 mod list; // list.rt: the positions of marks into a lent list
 
-// DISTINCT with places for the steps: `keep` for marks, of which there are none yet, `rows` and `mates` for the seats.
-fn distinct_on(
+// The words that hold as many rows as there are seats, and as a view may have.
+const SEAT_WORDS: usize = SEATS * sets::WORDS;
+
+const VIEW_WORDS: usize = Sheet::VIEW * sets::WORDS;
+
+// DISTINCT with N places for the marks, the rows and the mates of the steps: enough for the view, and for the seats. `WORDS` words hold N rows.
+fn distinct_on<const N: usize, const WORDS: usize>(
     d: usize,
     view: &[u64],
-    keep: &mut [bool],
-    rows: &mut [u64],
-    mates: &mut [usize],
     list: &mut [usize],
 ) -> usize
-    requires askable { Askable d (rows_of view.now) list.old × (length keep.old ≡ length (rows_of view.now)) × NoMarks keep.old }
-    requires places { Places (rows_of view.now) (rows_of rows.old) × Places (rows_of view.now) mates.old }
+    requires askable { Askable d (rows_of view.now) list.old }
+    requires places { (length (rows_of view.now) ≤ N) × (seats ≤ N) × (N ≤ most_in_view) × (WORDS ≡ N * row_words) }
     ensures { (result ≡ length (kept d (rows_of view.now)))
         × (list.new ≡ kept d (rows_of view.now) ++ drop result list.old) }
 {
-    steps::settle(d, view, keep, rows, mates);
+    let mut marks = [false; N];
+    let keep = &mut marks[..sets::row_count(view)];
+    let mut rows = [0u64; WORDS];
+    let mut mates = [0usize; N];
+    steps::settle(d, view, keep, &mut rows, &mut mates);
     list::list_positions(keep, list)
 }
 
@@ -40,17 +47,11 @@ pub fn distinct(d: usize, view: &[u64], list: &mut [usize]) -> usize
     ensures { (result ≡ length (kept d (rows_of view.now)))
         × (list.new ≡ kept d (rows_of view.now) ++ drop result list.old) }
 {
-    let n = sets::row_count(view);
-    if n <= SEATS {
-        let mut keep = [false; SEATS];
-        let mut rows = [0u64; SEATS * sets::WORDS];
-        let mut mates = [0usize; SEATS];
-        return distinct_on(d, view, &mut keep[..n], &mut rows, &mut mates, list);
+    if sets::row_count(view) <= SEATS {
+        distinct_on::<SEATS, SEAT_WORDS>(d, view, list)
+    } else {
+        distinct_on::<{ Sheet::VIEW }, VIEW_WORDS>(d, view, list)
     }
-    let mut keep = [false; Sheet::VIEW];
-    let mut rows = [0u64; Sheet::VIEW * sets::WORDS];
-    let mut mates = [0usize; Sheet::VIEW];
-    distinct_on(d, view, &mut keep[..n], &mut rows, &mut mates, list)
 }
 
 // DISTINCT for any caller: how many rows are kept; a view that cannot be asked about is refused, with nothing written.

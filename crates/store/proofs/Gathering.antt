@@ -73,8 +73,8 @@ module _ {f : ℕ → Bool} {from : List ℕ} {start : ℕ} {old : List ℕ} whe
     gathered_room = filled_room G.filled
 
 -- both parts make the view
-pub viewed : {table : List ℕ} {many : ℕ} {hid g : ℕ → Bool} {sets : List ℕ} {used : ℕ} {old : List ℕ} {seen : ℕ}
-    {rows : List ℕ} {n : ℕ} {rows' : List ℕ}
+pub viewed : {table : List ℕ} {many : ℕ} {hid g : ℕ → Bool} {sets : List ℕ} {used : ℕ} {old : List ℕ} {seen : ℕ} {rows : List ℕ} {n : ℕ}
+    {rows' : List ℕ}
     → many ≡ length table → Filled (λ i. not (hid i)) table many zero old seen rows → Filled g sets used seen rows n rows' → n ≤ most_in_view
     → length old ≡ most_in_view → Viewed table hid (those g sets used) n rows'
 unfolding view
