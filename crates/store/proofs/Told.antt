@@ -102,7 +102,7 @@ module _ (d : ℕ) (table : List ℕ) (full : Bool) (places : ℕ) (hid : ℕ �
       )
   serve_ten (Do Reset) e = absurd (omega arith)
   serve_ten (Ask (Look n)) e =
-      let shown = Ok (Seen (as_row (at (view table hid own) n))) in
+      let shown : Result Answer Refusal = Ok (Seen (as_row (at (view table hid own) n))) in
       absurd (omega (arith, (skipped 10 (leb (length (view table hid own)) n) NoRow [] shown (omega arith) e).1))
   serve_ten (Ask Count) e = absurd (omega arith)
   serve_ten (Ask Distinct) e =
