@@ -25,6 +25,7 @@ impl fmt::Display for Header {
 // Of a file refusal 26 is of a row.
 pub type Said = show::Said<Header, 26>;
 
+// (No `From`: neither type is of this crate.)
 fn heard(lesson: Result<(usize, usize), Refusal>) -> Said {
     match lesson {
         Ok((d, rows)) => Said::accepted(Header {

@@ -35,7 +35,7 @@ pub enum Refusal {
 }
 
 impl Refusal {
-    // The request's number.
+    // The request's number. (A match: a case that holds a row has no number of its own to be cast.)
     pub fn number(self) -> usize
         ensures { result ≡ number self }
     {

@@ -20,6 +20,7 @@ pub struct Table<'a> {
     pub rows: &'a [u64],
 }
 
+// (No `From`: neither type is of this crate.)
 fn heard(saved: Result<usize, Refusal>) -> Said {
     match saved {
         Ok(n) => Said::accepted(Length(n as u64)),
