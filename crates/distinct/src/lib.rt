@@ -22,6 +22,7 @@ const SEAT_WORDS: usize = SEATS * sets::WORDS;
 const VIEW_WORDS: usize = Sheet::VIEW * sets::WORDS;
 
 // DISTINCT with N places for the marks, the rows and the mates of the steps: enough for the view, and for the seats. `WORDS` words hold N rows.
+// (Arrays, no Vec: an allocation can fail, and DISTINCT can't.)
 fn distinct_on<const N: usize, const WORDS: usize>(
     d: usize,
     view: &[u64],
