@@ -1,29 +1,16 @@
 // Refusals 20 to 26, and 29: what the file alone decides.
-ghost use Rattle.std.specs.Prelude.{◌≡◌, ◌≤◌, ◌+◌, ◌*◌, length};
-ghost use Rattle.refusals.specs.Cases.{decided};
-ghost use Rattle.files.specs.Files.{values_in, count_in};
-ghost use Rattle.files.specs.FileCases.{row_cases};
+ghost use Rattle.std.specs.Prelude.{◌≡◌, Err, MatchResult};
 ghost use Rattle.files.specs.Reading.{judged};
 
+use crate::cells::Judged;
 use crate::numbers;
 use refusals::Refusal;
 use sheet::Sheet;
 
-// The rows of a file that has them all: refusal 26.
-fn judge_rows(file: &[u8], d: usize, t: usize) -> Result<(usize, usize), Refusal>
-    requires { (d ≡ values_in file.now) × (t ≡ count_in file.now) × (8 + 8 * t ≤ length file.now) }
-    ensures { result ≡ decided Err (row_cases file.now) (Ok (d, t)) }
-{
-    match numbers::over(file, d, t) {
-        Some(i) => Err(Refusal::RowOver(i)),
-        None => Ok((d, t)),
-    }
-}
-
-// d and T, or the refusal that is first in their order.
+// The file with its d and T, or the refusal that is first in their order.
 #[tactic(auto, unfolding(crate::specs::Reading::judged, crate::specs::FileCases::front_cases, refusals::specs::Cases::decided))]
-pub fn judge(file: &[u8]) -> Result<(usize, usize), Refusal>
-    ensures { result ≡ judged file.now }
+pub fn judge(file: &[u8]) -> Result<Judged<'_>, Refusal>
+    ensures { MatchResult result (λ accepted. accepted.file ≡ file.entry) (λ refusal. judged file.now ≡ Err refusal) }
 {
     if file.len() < 8 {
         return Err(Refusal::ShortFile);
@@ -48,5 +35,8 @@ pub fn judge(file: &[u8]) -> Result<(usize, usize), Refusal>
     if 8 + 8 * t < file.len() {
         return Err(Refusal::LongFile);
     }
-    judge_rows(file, d, t)
+    match numbers::over(file, d, t) {
+        Some(i) => Err(Refusal::RowOver(i)),
+        None => Ok(Judged { file, d, rows: t }),
+    }
 }

@@ -2,7 +2,7 @@
 use Prim.Native.Nat.{◌≤◌}
 use Rattle.files.specs.Files.{cell_in}
 use Rattle.files.proofs.Filling.{Filling}
-use Rattle.files.proofs.fill.Given as goal
+use Rattle.files.proofs.cells.Judged.fill.Given as goal
 
 abbrev pub invariant-loop-next : goal.invariant-loop-next
-invariant-loop-next l = (l.next ≤ l.t) × Filling (cell_in l.file) l.initial.rows l.rows l.next
+invariant-loop-next l = (l.next ≤ l.self.rows) × Filling (cell_in l.self.file.now) l.initial.list l.list l.next
