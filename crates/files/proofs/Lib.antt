@@ -6,6 +6,7 @@
 -- `Determined`: the contracts leave no choice.
 -- `ByteLaws`: numbers in bytes fit a word, and are read as they were put. `RowLaws`: the first n rows.
 -- `CellLaws`: a cell as it is read. `Filling`: words whose front is filled.
+-- `MadeReader`: what a reader owns that is made of a file and a cursor.
 -- `FilesJudged`: a file by its parts, and by its cases. `ReadFiles`: what is known of a file that is judged.
 -- `TableBytes`: how many bytes a table takes, and where a row's stand. `Saving`: bytes put into a buffer, part by part. `TablesSaved`: what is
 -- answered of a table once it is judged. `TablesRead`: what was read is a table that every call accepts.
@@ -22,6 +23,7 @@ pub mod Determined
 pub mod ByteLaws
 pub mod RowLaws
 pub mod CellLaws
+pub mod MadeReader
 pub mod Filling
 pub mod FilesJudged
 pub mod ReadFiles

@@ -8,7 +8,7 @@ use sets::Row;
 use sheet::Sheet;
 use store::{Answer, Call, Change, Question, Target};
 
-// The refusal number, 0 where the call is accepted, and the values that the answer returns, 0 where it has none.
+// The refusal number, 0 where the call is accepted, and the values that the answer returns, 0 where it has none. (Enums don't pass to C.)
 #[repr(C)]
 #[derive(Clone, Copy, PartialEq, Eq)]
 pub struct Plain {

@@ -18,7 +18,8 @@ fn repeats(rows: &[u64], i: usize) -> bool
 }
 
 // The chained rows, in view order. `head[k]` is the first place with k values, and `next[i]` the next one after i with as many as row i:
-// a number past the view where there is none. (Plain numbers, no Options: the second step has the places of `next` for its mates.)
+// a number past the view where there is none.
+// (Plain numbers in lent places, no Options or Vecs: `next` is lent to `mark_minimal`, for it serves the second step as mates, and holds the heads.)
 #[derive(Clone, Copy)]
 pub struct Chained<'a> {
     pub head: &'a [u16],

@@ -15,7 +15,8 @@ mod tags; // tags.rt: rows of as many values are told apart
 mod sieve; // sieve.rt: the rows of the chains are judged, few values first
 
 // Marks the minimal rows, of equal ones the first. `next` and `mins` are scratch places.
-// (What is asked of a view stands in each contract below: docs/PROMISES.md names this function, whose callers lend plain words.)
+// (What is asked of a view stands in the contract, since docs/PROMISES.md names this function, whose callers lend plain words;
+// a struct for the two functions below would be made here for one call of each, and each asks for more beside it.)
 pub fn mark_minimal(rows: &[u64], keep: &mut [bool], next: &mut [usize], mins: &mut [u64])
     requires rows_len_bound { (length (rows_of rows.now) ≤ most_in_view) × (length keep.old ≡ length (rows_of rows.now)) × NoMarks keep.old
         × NoneEmpty (rows_of rows.now) }

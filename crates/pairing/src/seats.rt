@@ -27,7 +27,7 @@ pub struct Seating {
     pub heavy: Row,
 }
 
-// The seats: the rows on them, the columns of these, their mates, and how they sit.
+// The seats: the rows on them, the columns of these, their mates, and how they sit. (Rows are words and mates are not: both are lent places.)
 #[derive(Drop)]
 pub struct Seats<'a> {
     pub rows: &'a mut [u64],

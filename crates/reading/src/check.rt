@@ -1,5 +1,4 @@
 // One file through `read` and through the reader.
-use refusals::Refusal;
 use sets::Row;
 use std::io::Write;
 use std::{fmt, io};
@@ -25,14 +24,13 @@ impl fmt::Display for Header {
 // Of a file refusal 26 is of a row.
 pub type Said = show::Said<Header, 26>;
 
-// (No `From`: neither type is of this crate.)
-fn heard(lesson: Result<(usize, usize), Refusal>) -> Said {
-    match lesson {
-        Ok((d, rows)) => Said::accepted(Header {
+// The d and T of a file.
+impl From<(usize, usize)> for Header {
+    fn from((d, rows): (usize, usize)) -> Header {
+        Header {
             d: d as u64,
             rows: rows as u64,
-        }),
-        Err(why) => Said::refused(why.number() as u64, why.row() as u64),
+        }
     }
 }
 
@@ -67,7 +65,8 @@ pub fn check(
 ) -> io::Result<bool> {
     write!(out, "{must}")?;
     let mut list = [BEFORE; PLACES];
-    let ours = heard(files::read(file, &mut list[..places.min(PLACES)]));
+    let read = files::read(file, &mut list[..places.min(PLACES)]);
+    let ours = Said::from(read.map(Header::from));
     let right = ours == must && list_right(&list, must.refusal, cells) && turns_right(file, cells);
     show::conclude(out, right, ours)
 }

@@ -1,13 +1,12 @@
 // One table through `write`, and what was written through `read`.
 use crate::wanted::{BEFORE, Length, Said, Wanted};
-use refusals::Refusal;
 use std::io;
 use std::io::Write;
 
 // More than any file takes.
 const ROOM: usize = 2100;
 
-// The refusal of a file that has bytes behind its rows.
+// The refusal of a file that has bytes behind its rows. (A number, since a script has the request's own: DECISIONS 54.)
 const LONG_FILE: u64 = 29;
 
 // One row more than a table may have.
@@ -18,14 +17,6 @@ pub const ROWS: usize = 257;
 pub struct Table<'a> {
     pub d: usize,
     pub rows: &'a [u64],
-}
-
-// (No `From`: neither type is of this crate.)
-fn heard(saved: Result<usize, Refusal>) -> Said {
-    match saved {
-        Ok(n) => Said::accepted(Length(n as u64)),
-        Err(why) => Said::refused(why.number() as u64, why.row() as u64),
-    }
 }
 
 // The file is read as the table.
@@ -67,7 +58,8 @@ pub fn check(
     let must = wanted.said;
     write!(out, "{must}")?;
     let mut buffer = [BEFORE; ROOM];
-    let ours = heard(files::write(table.d, table.rows, &mut buffer[..room.min(ROOM)]));
+    let saved = files::write(table.d, table.rows, &mut buffer[..room.min(ROOM)]);
+    let ours = Said::from(saved.map(|n| Length(n as u64)));
     let right = ours == must
         && wanted.is_whole()
         && wanted.is_in(&buffer)

@@ -77,15 +77,10 @@ impl Row {
     }
 
     // Value v is possible in the row. Total, so that no caller owes a bound: a row has no value from VALUES on.
-    // (`word::has` has this body: of a call the proof didn't close, for after it nothing says that the word of a row fits.)
     pub fn has(self, v: usize) -> bool
         ensures { result ≡ has (bits self) v }
     {
-        if v < VALUES {
-            (self.low >> v) % 2 == 1
-        } else {
-            false
-        }
+        word::has(u64::from(self), v)
     }
 
     // The values that both have.

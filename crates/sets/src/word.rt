@@ -2,7 +2,7 @@
 ghost use Rattle.std.specs.Prelude.{◌≡◌, ◌<◌, ◌≤◌};
 ghost use Rattle.std.specs.Int.Bits.{bit_or};
 ghost use Rattle.sets.specs.Limits.{word_bits};
-ghost use Rattle.sets.specs.Sets.{has, single, all, subset, minus};
+ghost use Rattle.sets.specs.Sets.{has, single, all, minus};
 
 // How many bits a word has.
 pub const BITS: usize = 64;
@@ -12,13 +12,6 @@ pub fn has(set: u64, v: usize) -> bool
     ensures { result ≡ has set v }
 {
     if v < BITS { (set >> v) % 2 == 1 } else { false }
-}
-
-// Every value of a is one of b's.
-pub fn subset(a: u64, b: u64) -> bool
-    ensures { result ≡ subset a b }
-{
-    a & b == a
 }
 
 // The values of a that are not b's.
@@ -49,9 +42,5 @@ pub fn all(d: usize) -> u64
     requires { d ≤ word_bits }
     ensures { result ≡ all d }
 {
-    if d < BITS {
-        (1 << d) - 1
-    } else {
-        0xffff_ffff_ffff_ffff
-    }
+    if d < BITS { (1 << d) - 1 } else { u64::MAX }
 }

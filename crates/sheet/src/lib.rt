@@ -11,7 +11,8 @@ mod shares; // shares.rt: what the desks hold together
 mod sound; // sound.rt: whether a sheet is sound
 
 // `rows` is the table's row count T. Desk k's marks are `WORDS` words: table row n is hidden where bit n % 64 of their word n / 64 is set.
-// The first `used` places hold the inserted rows, in order of insertion. (Flat arrays with a number beside them, for hosts in C keep it.)
+// The first `used` places hold the inserted rows, in order of insertion. (Flat arrays with a number beside them, for hosts in C keep it.
+// For the same reason it has no invariant: a sheet that a host hands in may hold anything, and what a method needs of it is asked there.)
 #[repr(C)]
 #[derive(Clone, Copy, PartialEq, Eq)]
 pub struct Sheet {

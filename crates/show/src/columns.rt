@@ -45,7 +45,7 @@ fn numbers(text: &[u8], row: &mut [u64]) -> usize {
     filled
 }
 
-// A line's numbers in their columns, and how far the columns are filled.
+// A line's numbers in their columns, and how far the columns are filled. (No Vec: a sign jumps over columns, which keep their usual values.)
 #[derive(Clone, Copy)]
 pub struct Columns<const N: usize> {
     pub row: [u64; N],

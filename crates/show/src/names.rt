@@ -50,33 +50,23 @@ fn values<W: fmt::Write>(f: &mut fmt::Formatter<W>, names: Names, set: u64) -> f
     joined(f, set, ", ", |value| Value { names, value })
 }
 
-// A row in the paper's brackets: one of these values.
+// A set by the names of its values: in braces all of them, in the paper's brackets one of them.
 #[derive(Clone, Copy)]
-pub struct OneOf {
+pub struct Shown<const ALL: bool> {
     pub names: Names,
     pub set: u64,
 }
 
-impl fmt::Display for OneOf {
-    fn fmt<W: fmt::Write>(&self, f: &mut fmt::Formatter<W>) -> fmt::Result {
-        f.write_str("[")?;
-        values(f, self.names, self.set)?;
-        f.write_str("]")
-    }
-}
+pub type OneOf = Shown<false>;
 
-// A set in braces: all of these values.
-#[derive(Clone, Copy)]
-struct AllOf {
-    names: Names,
-    set: u64,
-}
+type AllOf = Shown<true>;
 
-impl fmt::Display for AllOf {
+impl<const ALL: bool> fmt::Display for Shown<ALL> {
     fn fmt<W: fmt::Write>(&self, f: &mut fmt::Formatter<W>) -> fmt::Result {
-        f.write_str("{")?;
+        let (open, close) = if ALL { ("{", "}") } else { ("[", "]") };
+        f.write_str(open)?;
         values(f, self.names, self.set)?;
-        f.write_str("}")
+        f.write_str(close)
     }
 }
 

@@ -1,4 +1,5 @@
 // What an answer says, by plain numbers, since a script may name any.
+use refusals::Refusal;
 use std::fmt::Display;
 use std::io::Write;
 use std::{fmt, io};
@@ -26,6 +27,15 @@ impl<T: Default, const ROW: u64> Said<T, ROW> {
             refusal,
             row,
             told: T::default(),
+        }
+    }
+}
+
+impl<T: Default, const ROW: u64> From<Result<T, Refusal>> for Said<T, ROW> {
+    fn from(answer: Result<T, Refusal>) -> Self {
+        match answer {
+            Ok(told) => Said::accepted(told),
+            Err(why) => Said::refused(why.number() as u64, why.row() as u64),
         }
     }
 }

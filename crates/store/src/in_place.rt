@@ -10,6 +10,7 @@ use refusals::{Refusal, tables};
 use sheet::Sheet;
 
 // What the desk is answered, and for DISTINCT the kept positions in its list.
+// (The arguments are those of `desk_call`, whose form the request names: a struct of them would be made and taken apart in one call.)
 fn respond(
     table: &[u64],
     d: usize,

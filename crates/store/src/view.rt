@@ -9,6 +9,7 @@ ghost use Rattle.store.specs.Code.Views.{Decides, Filled, Viewed};
 use sheet::Sheet;
 
 // The rows of `from` that pass go behind the first `start` rows: row i passes where `passes(i)` says so. Answers how many rows there are then.
+// (`many` is no slice's length: to cut the sheet's places at the used ones, one would count words.)
 fn put_those<F: Fn(usize) -> bool>(
     from: &[u64],
     many: usize,
