@@ -32,7 +32,7 @@ enum {
     FOLIOKETTLE_FILE = 8 + 8 * FOLIOKETTLE_ROWS                /* bytes of a lesson file: so many do for any table */
 };
 
-/* Bytes of stack that are enough for any call. 62 KB were measured; `bench/run stack` measures again. */
+/* Bytes of stack that are enough for any call. 55 KB were measured; `bench/run stack` measures again. */
 #define FOLIOKETTLE_STACK (128 * 1024)
 
 /* The class sheet. `foliokettle_begin` makes it; then it is handed in and handed back, or altered in place. A set is a
