@@ -69,7 +69,8 @@ fn second_step(
     }
 }
 
-// The rows that DISTINCT keeps are marked. `rows` and `mates` are scratch places in the first step, and so need not be made ready for the second.
+// The rows that DISTINCT keeps are marked. `rows` and `mates` are scratch places in the first step, and so need not be made ready for the second
+// (and are lent one by one).
 pub fn settle(d: usize, view: &[u64], keep: &mut [bool], rows: &mut [u64], mates: &mut [usize])
     requires view_len_bound { (length (rows_of view.now) ≤ most_in_view) × (length keep.old ≡ length (rows_of view.now)) × NoMarks keep.old
         × InColumn d (rows_of view.now) }

@@ -1,4 +1,5 @@
 // Sets of values and families of sets, from the paper's definitions alone, by going through every choice.
+// (Nothing of `sets`: what the store is compared with must not stand on the store.)
 // Value v is in a set where bit v of the set's number is 1; in the same way the set numbered s is in a family where bit s of the
 // family's number is 1.
 // A family has room for the sets of 6 values. A sublist of a view is given by marks: position i is in it where bit i is 1.

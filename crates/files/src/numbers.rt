@@ -28,7 +28,7 @@ pub fn row(file: &[u8], i: usize) -> Row
     Row::from(big(file, 8 + 8 * i, 8))
 }
 
-// The lowest of the first n rows that has a value d or above.
+// The lowest of the first n rows that has a value d or above. (`sets::bad_row` asks more, of rows in words: they share no more than a loop.)
 pub fn over(file: &[u8], d: usize, n: usize) -> Option<usize>
     requires { 8 + 8 * n ≤ length file.now }
     ensures { result ≡ lowest_to (λ i. not (below d (row_in file.now i))) n }

@@ -9,7 +9,8 @@ ghost use Rattle.pairing.specs.Code.Asking.{Asks, Searches, OfValue, OfRow, OfSe
 
 use sets::Row;
 
-// The rows, and where a value finds those that hold it: in its column, or among the heavy rows.
+// The rows, and where a value finds those that hold it: in its column, or among the heavy rows. (A search reads it; what it changes,
+// mates and asked rows, is lent beside it.)
 #[derive(Clone, Copy)]
 pub struct Directory<'a> {
     pub rows: &'a [u64],

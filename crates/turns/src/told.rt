@@ -3,6 +3,7 @@ use refusals::Refusal;
 use store::Answer;
 
 // The refusal number or 0 and the values of the answer, plain because hosts in C are told so; and the set of the positions listed.
+// (`host::Plain` has no such set.)
 #[derive(Clone, Copy, PartialEq, Eq)]
 pub struct Told {
     pub refusal: u64,

@@ -47,7 +47,7 @@ fn tell_kept(out: &mut impl Write, told: Told) -> io::Result<()> {
     Ok(())
 }
 
-// What a call of this kind is told.
+// What a call of this kind is told. (No `Display`: the same numbers are said in other words for another kind.)
 pub fn tell(out: &mut impl Write, kind: Kind, told: Told) -> io::Result<()> {
     if told.refusal != 0 {
         return tell_refusal(out, told);
