@@ -14,7 +14,7 @@ fn repeats(rows: &[u64], i: usize) -> bool
     requires { i < length (rows_of rows.now) }
     ensures { (result ≡ true → Repeats (rows_of rows.now) i) × (result ≡ false → Repeats (rows_of rows.now) i → ⊥) }
 {
-    0 < i && sets::row_at(rows, i - 1) == sets::row_at(rows, i)
+    0 < i && sets::row_at(rows, i - 1).equal(sets::row_at(rows, i))
 }
 
 // The chained rows, in view order. `head[k]` is the first place with k values, and `next[i]` the next one after i with as many as row i:

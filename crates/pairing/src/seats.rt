@@ -27,7 +27,8 @@ pub struct Seating {
     pub heavy: Row,
 }
 
-// The seats: the rows on them, the columns of these, their mates, and how they sit. (Rows are words and mates are not: both are lent places.)
+// The seats: the rows on them, the columns of these, their mates, and how they sit. (Rows are words and mates are not: both are lent places,
+// since DISTINCT allocates nothing.)
 #[derive(Drop)]
 pub struct Seats<'a> {
     pub rows: &'a mut [u64],

@@ -170,6 +170,13 @@ impl Row {
         self.minus(Row::single(v))
     }
 
+    // They have the same values. (The derived `==` speaks of words, and this of sets, whatever is known of the words.)
+    pub fn equal(self, other: Row) -> bool
+        ensures { result ≡ eqb (bits self) (bits other) }
+    {
+        u64::from(self) == u64::from(other)
+    }
+
     // A value is in both.
     pub fn meets(self, other: Row) -> bool
         ensures { result ≡ not (eqb (bit_and (bits self) (bits other)) zero) }

@@ -57,7 +57,7 @@ impl Sheet {
 
     // Marks stand only for existing desks and rows below T.
     #[tactic(auto, using(crate::proofs::Markings::marked_wrong))]
-    pub(crate) fn marks_right(&self) -> bool
+    pub fn marks_right(&self) -> bool
         ensures { result ≡ marked_right self.now }
     {
         for (i, &word) in self.marks.iter().enumerate() {

@@ -33,7 +33,7 @@ impl Sheet {
 
     // Where the places are right, how many rows each desk holds.
     #[tactic(auto, using(crate::proofs::Surveying::tallying))]
-    pub(crate) fn tally(&self) -> Option<[usize; Sheet::DESKS]>
+    pub fn tally(&self) -> Option<[usize; Sheet::DESKS]>
         requires { (self.now.used ≤ most_places) × (self.now.desks ≤ most_desks) }
         ensures { Surveyed placed self.now result }
     {

@@ -9,7 +9,7 @@ use crate::Sheet;
 
 impl Sheet {
     // No desk holds more than it may.
-    pub(crate) fn none_over(&self, counts: &[usize; Sheet::DESKS]) -> bool
+    pub fn none_over(&self, counts: &[usize; Sheet::DESKS]) -> bool
         requires { self.now.desks ≤ most_desks }
         ensures { result ≡ list_all (λ held. leb held most_held) (take self.now.desks counts.now) }
     {

@@ -79,6 +79,11 @@ module _ (d : ℕ) (table : List ℕ) (s : Sheet) (k : ℕ) (c : Call) (places :
       chained Err (table_cases most_rows d table ++ sheet_cases d table s k) (call_cases d table (crowded s) places hid (own s k) c) grants
       ∙ ap (λ (cs : List Case). decided Err cs grants) (append_assoc (table_cases most_rows d table) (sheet_cases d table s k) _)
 
+  accepts : (c : Call)
+      → (number_of (Ok (granted d table (crowded s) places hid (own s k) c)) ≡ 0)
+      × (row_of (Ok (granted d table (crowded s) places hid (own s k) c)) ≡ 0)
+  accepts c = (refl, refl)
+
   call_rising : (c : Call) → Rising 5 (call_cases d table (crowded s) places hid (own s k) c)
   call_rising (Do (Delete (Table n))) = (omega arith, (omega arith, tt))
   call_rising (Do (Delete (Own n))) = (omega arith, tt)
@@ -93,13 +98,13 @@ module _ (d : ℕ) (table : List ℕ) (s : Sheet) (k : ℕ) (c : Call) (places :
   later_rising = (omega arith, (omega arith, (omega arith, call_rising c)))
 
   pub call_exactly_when : (n : ℕ) → 0 < n → (number_of (answered d table s k c places) ≡ n) ↔ Given (all_cases d table s k c places) n
-  call_exactly_when = rw by_cases (given_exactly_when Err number_of (λ r. refl) grants refl 0 (all_cases d table s k c places)
+  call_exactly_when = rw by_cases (given_exactly_when Err number_of (λ r. refl) grants (accepts c).0 0 (all_cases d table s k c places)
       (table_rising most_rows d table later_cases later_rising))
 
   -- with 2 'the lowest such row'
   pub call_bad_row : number_of (answered d table s k c places) ≡ 2 → LowestBad d table (row_of (answered d table s k c places))
   call_bad_row e =
-      let given = lowest_bad_row Err number_of (λ r. refl) grants most_rows d table later_cases later_rising refl (rw by_cases at e) in
+      let given = lowest_bad_row Err number_of (λ r. refl) grants most_rows d table later_cases later_rising (accepts c).0 (rw by_cases at e) in
       rw (ap row_of (by_cases ∙ given.1)) given.2
 
   -- and 0 with any other number
@@ -118,5 +123,5 @@ module _ (d : ℕ) (table : List ℕ) (s : Sheet) (k : ℕ) (c : Call) (places :
   all_never_26 = call_never_26 c
 
   pub call_no_row : number_of (answered d table s k c places) ≢ 2 → row_of (answered d table s k c places) ≡ 0
-  call_no_row not-2 = rw by_cases (no_row Err number_of (λ r. refl) grants row_of (λ r. refl) refl (all_cases d table s k c places)
+  call_no_row not-2 = rw by_cases (no_row Err number_of (λ r. refl) grants row_of (λ r. refl) (accepts c).1 (all_cases d table s k c places)
       (rw by_cases at not-2) (λ e. not_both ((call_exactly_when 26 (omega arith)).0 (rw by_cases e)).0 all_never_26))
