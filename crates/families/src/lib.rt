@@ -30,16 +30,24 @@ pub fn marked(list: &[usize], n: usize) -> u64 {
 
 // What a value set becomes when one row more is gone through: the family of the set with one of the row's values put in, whichever is chosen.
 fn choose(set: usize, row: u64) -> u64 {
-    (0..6)
-        .filter(|&v| has(row, v))
-        .fold(0, |family, v| with(family, with(set as u64, v) as usize))
+    let mut family = 0;
+    for v in 0..6 {
+        if has(row, v) {
+            family = with(family, with(set as u64, v) as usize);
+        }
+    }
+    family
 }
 
 // What a family becomes when one row more is gone through, from every one of its sets.
 pub fn choose_each(family: u64, row: u64) -> u64 {
-    (0..64)
-        .filter(|&set| has(family, set))
-        .fold(0, |grown, set| grown | choose(set, row))
+    let mut grown = 0;
+    for set in 0..64 {
+        if has(family, set) {
+            grown |= choose(set, row);
+        }
+    }
+    grown
 }
 
 // The family of the marked rows: the value sets of all choices. A choice starts with the empty set, which has number 0.

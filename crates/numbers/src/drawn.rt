@@ -1,7 +1,6 @@
 // A lesson of calls that nobody has thought out: five desks call in a class of four, for rows and sets that are there or not.
 use sheet::Sheet;
 use show::Tally;
-use std::alloc::{AllocError, Global};
 use std::io;
 use std::io::Write;
 use turns::{Door, Kind, Table, Told, Trial, Turn};
@@ -53,8 +52,8 @@ fn mixed_in(sum: u64, told: Told) -> u64 {
 
 impl Lesson {
     // The class of four that begins.
-    fn begin(alloc: Global, told: Tally) -> Result<Lesson, AllocError> {
-        let table = Table::read(alloc, b"6 rows, d 4: 1 3 3 12 6 15")?;
+    fn begin(told: Tally) -> Lesson {
+        let table = Table::read(b"6 rows, d 4: 1 3 3 12 6 15");
         let turn = Turn {
             kind: Kind::Begin,
             number: 4,
@@ -65,13 +64,13 @@ impl Lesson {
             Sheet::fresh(0, 0, 0),
             turn,
         ).at_every_door();
-        Ok(Lesson {
+        Lesson {
             table,
             sheet: begun.sheet,
             told,
             accepted: Tally::default(),
             sum: 0,
-        })
+        }
     }
 
     // Turn i through every door: what the first door tells is what the others must tell.
@@ -99,8 +98,8 @@ impl Lesson {
 }
 
 // All turns.
-pub fn play(out: &mut impl Write, alloc: Global, told: Tally) -> io::Result<Tally> {
-    let mut lesson = Lesson::begin(alloc, told)?;
+pub fn play(out: &mut impl Write, told: Tally) -> io::Result<Tally> {
+    let mut lesson = Lesson::begin(told);
     for i in 0..TURNS {
         lesson.play(i);
     }

@@ -10,7 +10,7 @@ use std::io::{BufWriter, Write};
 fn main(rt: HostRuntime) -> io::Result<()> {
     let mut out = BufWriter::new(rt.alloc(), io::writer(&rt))?;
     let score = turns::play(&mut out, &rt, rt.alloc())?;
-    let tally = drawn::play(&mut out, rt.alloc(), score.told)?;
+    let tally = drawn::play(&mut out, score.told)?;
     tally.conclude(&mut out)?;
     out.flush()
 }

@@ -11,6 +11,7 @@ use lib.Bits.{bit_and, bit_or}
 use lib.ListN.{length, set, length-append}
 use lib.Seq.{set-append_seam}
 use borrow.Author.Tests.{not-true}
+use Rattle.std.specs.Prelude.{Option, Some, None}
 use Rattle.sets.specs.declared.Row.{Row}
 use Rattle.sets.specs.Sets.{has, single, minus}
 use Rattle.sets.specs.Rows.{width, bits}
@@ -22,7 +23,7 @@ use Rattle.theory.proofs.Places.{not_mate, past, seated?}
 use Rattle.theory.proofs.Sizes.{size_by_d}
 use Rattle.theory.proofs.FailedSearch.{failed_largest}
 use Rattle.pairing.specs.declared.seats.Seating.{Seating}
-use Rattle.pairing.specs.Code.Asking.{Inside, Index, Shut, Asks, Searches, Grown, Failed}
+use Rattle.pairing.specs.Code.Asking.{Inside, Index, Shut, Asks, Searches, Grown, Failed, OfSearch}
 use Rattle.pairing.specs.Code.Seats.{seats, Unreached, Below, Bench, Reseated}
 use Rattle.pairing.proofs.AskSteps.{row_free}
 use Rattle.pairing.proofs.SeatColumns.{left_or_same}
@@ -210,9 +211,10 @@ module _ (s : Seating) (R columns p : List ℕ) (B : Bench s R columns p) where
     }
 
     -- is one from all of them
-    pub search_all : {p₀ p' : List ℕ} {asked : ℕ} → bit_and row (bits s.free) ≡ zero → Failed from (R ++ row ∷ []) p₀ p' asked
-        → Failed (bits s.free) (R ++ row ∷ []) p₀ p' asked
-    search_all apart O = record {
+    pub search_all : (r : Option ℕ) (p₀ p' : List ℕ) (asked : ℕ) → bit_and row (bits s.free) ≡ zero → OfSearch r from (R ++ row ∷ []) p₀ p' asked
+        → OfSearch r (bits s.free) (R ++ row ∷ []) p₀ p' asked
+    search_all (Some v) p₀ p' asked apart O = (O.0, (minus_out (bits s.free) (bits s.fresh) v O.1).0, O.2)
+    search_all None p₀ p' asked apart O = record {
       still = O.still;
       closed = O.closed;
       heard = λ v t. elim (true_or_false (has (bits s.fresh) v)) [

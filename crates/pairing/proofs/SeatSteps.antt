@@ -17,7 +17,7 @@ use Rattle.sets.specs.Sets.{has, single, minus}
 use Rattle.sets.specs.Rows.{row_words, width, bits, rows_of, put_row}
 use Rattle.sets.proofs.LentRows.{rows_stored, rows_end, rows_take}
 use Rattle.sets.proofs.Bools.{and_left, and_right, not_both}
-use Rattle.sets.proofs.Values.{has-and, has-empty, minus_out}
+use Rattle.sets.proofs.Values.{has-and, has-empty}
 use Rattle.sets.proofs.ValuesBelow.{some_value}
 use Rattle.sets.proofs.RowValues.{lowest_row}
 use Rattle.theory.specs.Pairings.{at}
@@ -169,18 +169,18 @@ module _ {row : ℕ} {s : Seating} {rows columns mates : List ℕ} (K : Seeks ro
     pub seek_found : {v : ℕ} → r ≡ Some v → (s' : Seating) → Reseated (searched_seats s heavy' s.dead) row v s'
         → OfSeat row s rows s' (rows_with row s rows) columns' mates'
     seek_found {v} is s' T =
-        let k = rw (is, F.is, rows_put S row K.low K.room, mates_put S row K.low K.room zero) at F.answer in
-        let free = (minus_out (bits s.free) (bits s.fresh) v k.1).0 in
+        let k = search_all s (R S) columns (p S) S.bench row K.low (Some v) (p S ++ zero ∷ []) p' asked K.apart
+        (rw (is, F.is, rows_put S row K.low K.room, mates_put S row K.low K.room zero) at F.answer) in
         let bench =
         bench_other s (R S) columns (p S) S.bench columns' s.used heavy' s.dead (index F.index) S.bench.shut in
-        seat_more S row K.low K.room (searched_seats s heavy' s.dead) s' columns' v p' mates' refl refl bench free k.2 seek_long
+        seat_more S row K.low K.room (searched_seats s heavy' s.dead) s' columns' v p' mates' refl refl bench k.1 k.2 seek_long
         (take_at p' (drop (s.used + 1) (mates_with s mates)) (s.used + 1) long) T
 
     -- no value has got a row: the mates are as they were
     module _ (none : r ≡ None) where
       plain : Failed (bits s.free) (R S ++ row ∷ []) (p S ++ zero ∷ []) p' asked
       plain =
-          search_all s (R S) columns (p S) S.bench row K.low K.apart
+          search_all s (R S) columns (p S) S.bench row K.low None (p S ++ zero ∷ []) p' asked K.apart
           (rw (none, F.is, rows_put S row K.low K.room, mates_put S row K.low K.room zero) at F.answer)
 
       mates_old : take s.used mates' ≡ p S

@@ -3,15 +3,14 @@ use crate::compare::compare;
 use crate::rows::Rows;
 use families::{EVERY, has};
 use show::{Columns, Family, Names, OneOf, Tally};
-use std::alloc::{AllocError, Global};
 use std::io;
 use std::io::Write;
 
-// The names of an example's values, its view, and the marks of the rows that DISTINCT keeps.
-#[derive(Drop)]
+// The names of an example's values, the line that has its view, and the marks of the rows that DISTINCT keeps.
+#[derive(Clone, Copy)]
 pub struct Example {
     names: Names,
-    view: Vec<u64>,
+    line: Columns<12>,
     kept: u64,
 }
 
@@ -27,29 +26,32 @@ fn kept(d: usize, view: &[u64]) -> u64 {
 
 impl Example {
     // No example yet.
-    pub fn none(alloc: Global) -> Example {
+    pub fn none() -> Example {
         Example {
             names: Names::Letters,
-            view: Vec::new(alloc),
+            line: Columns::read(b"", [0; 12]),
             kept: 0,
         }
     }
 
     // The example of a line's numbers.
-    pub fn read(alloc: Global, line: &Columns<12>) -> Result<Example, AllocError> {
+    pub fn read(line: Columns<12>) -> Example {
         let names = if line.row[2] == 0 {
             Names::Letters
         } else {
             Names::Salaries
         };
-        let view = Vec::from_slice(alloc, line.from_column(ROWS))?;
-        let kept = kept(line.row[1] as usize, &view);
-        Ok(Example { names, view, kept })
+        let kept = kept(line.row[1] as usize, line.from_column(ROWS));
+        Example { names, line, kept }
+    }
+
+    fn view(&self) -> &[u64] {
+        self.line.from_column(ROWS)
     }
 
     // The family of the marked rows.
     pub fn family(&self, marks: u64) -> Family {
-        self.family_of(families::family(&self.view, marks))
+        self.family_of(families::family(self.view(), marks))
     }
 
     // The family with these sets.
@@ -63,7 +65,7 @@ impl Example {
     // The marked rows.
     pub fn rows(&self, marks: u64) -> Rows {
         Rows {
-            many: self.view.len(),
+            many: self.view().len(),
             marks,
         }
     }
@@ -76,7 +78,7 @@ impl Example {
     // The marked rows by their numbers, and in full with their values.
     fn show_rows(&self, out: &mut impl Write, marks: u64) -> io::Result<()> {
         let names = self.names;
-        for (i, &set) in self.view.iter().enumerate() {
+        for (i, &set) in self.view().iter().enumerate() {
             if has(marks, i) {
                 write!(out, "  eta_{} {}", i + 1, OneOf { names, set })?;
             }
@@ -97,7 +99,11 @@ impl Example {
         )?;
         let same_family = compare(out, self.family(self.kept), whole)?;
         write!(out, "  fewest rows that have it: ")?;
-        let fewest = compare(out, families::size(self.kept), families::fewest(&self.view))?;
+        let fewest = compare(
+            out,
+            families::size(self.kept),
+            families::fewest(self.view()),
+        )?;
         Ok(tally.count(same_family).count(fewest))
     }
 }

@@ -10,7 +10,6 @@ use crate::example::Example;
 use crate::large;
 use families::EVERY;
 use show::{Columns, Tally};
-use std::alloc::Global;
 use std::io;
 use std::io::Write;
 
@@ -54,7 +53,6 @@ fn named(rows: &[u64]) -> u64 {
 // How the comparisons went after what a line's numbers say, of the example before it or of their own.
 pub fn trial(
     out: &mut impl Write,
-    alloc: Global,
     example: &mut Example,
     tally: Tally,
     numbers: &[u8],
@@ -65,7 +63,7 @@ pub fn trial(
     let sets = gathered(&line.row[4..]);
     let agrees = match Kind::from(kind) {
         Kind::View => {
-            *example = Example::read(alloc, &line)?;
+            *example = Example::read(line);
             return example.show(out, tally);
         }
         Kind::Family => compare(out, example.family(marks), example.family_of(sets))?,

@@ -15,8 +15,8 @@ use std::io::BufWriter;
 fn main(rt: HostRuntime) -> io::Result<()> {
     let script = show::script(&rt, rt.alloc())?;
     let mut out = BufWriter::new(rt.alloc(), io::writer(&rt))?;
-    let mut example = Example::none(rt.alloc());
+    let mut example = Example::none();
     show::play(&mut out, &script, b"|", |out, tally, numbers| {
-        line::trial(out, rt.alloc(), &mut example, tally, numbers)
+        line::trial(out, &mut example, tally, numbers)
     })
 }

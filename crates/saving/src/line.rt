@@ -7,8 +7,8 @@
 use crate::check;
 use crate::check::{ROWS, Table};
 use crate::wanted::{Length, Said, Wanted};
+use arrayvec::ArrayVec;
 use show::{Columns, split_before};
-use std::alloc::{AllocError, Global};
 use std::io;
 use std::io::Write;
 
@@ -66,8 +66,14 @@ fn table_trial(out: &mut impl Write, numbers: &[u8]) -> io::Result<bool> {
 }
 
 // The numbers as bytes.
-fn bytes(alloc: Global, numbers: &[u64]) -> Result<Vec<u8>, AllocError> {
-    numbers.iter().map(|&n| (n % 256) as u8).collect(alloc)
+fn bytes(numbers: &[u64]) -> ArrayVec<u8, MOST> {
+    let mut bytes = ArrayVec::new();
+    for &n in numbers {
+        if bytes.try_push((n % 256) as u8).is_err() {
+            break;
+        }
+    }
+    bytes
 }
 
 // The numbers of a part of a line with a file.
@@ -76,20 +82,20 @@ fn listed(numbers: &[u8]) -> Columns<MOST> {
 }
 
 // A file that is read and written again, or refused.
-fn file_trial(out: &mut impl Write, alloc: Global, text: &[u8]) -> io::Result<bool> {
+fn file_trial(out: &mut impl Write, text: &[u8]) -> io::Result<bool> {
     if let Some((file, refusal)) = split_before(text, b'=') {
-        let file = bytes(alloc, listed(file).from_column(0))?;
+        let file = bytes(listed(file).from_column(0));
         return check::check_refused(out, &file, listed(refusal).row[REFUSAL]);
     }
     let (file, again) = split_before(text, b'>').unwrap_or((text, &[]));
-    let file = bytes(alloc, listed(file).from_column(0))?;
+    let file = bytes(listed(file).from_column(0));
     check::check_file(out, &file, listed(again).from_column(0))
 }
 
 // The table or the file of the numbers, which begin with their sign.
-pub fn trial(out: &mut impl Write, alloc: Global, numbers: &[u8]) -> io::Result<bool> {
+pub fn trial(out: &mut impl Write, numbers: &[u8]) -> io::Result<bool> {
     if numbers.first() == Some(&b'<') {
-        file_trial(out, alloc, numbers)
+        file_trial(out, numbers)
     } else {
         table_trial(out, numbers)
     }

@@ -13,6 +13,6 @@ fn main(rt: HostRuntime) -> io::Result<()> {
     let script = show::script(&rt, rt.alloc())?;
     let mut out = BufWriter::new(rt.alloc(), io::writer(&rt))?;
     show::play(&mut out, &script, b"|<", |out, tally, numbers| {
-        Ok(tally.count(line::trial(out, rt.alloc(), numbers)?))
+        Ok(tally.count(line::trial(out, numbers)?))
     })
 }

@@ -8,16 +8,15 @@ mod views; // views.rt: the views to compare on
 
 use compare::compare;
 use show::Tally;
-use std::alloc::Global;
 use std::io;
 use std::io::{BufWriter, Write};
 
 // All views of 0 to 4 rows over 1 to 3 values: with k kinds of rows there are 1 + k + k^2 + k^3 + k^4.
-fn every_view(out: &mut impl Write, alloc: Global) -> io::Result<Tally> {
+fn every_view(out: &mut impl Write) -> io::Result<Tally> {
     let mut tally = Tally::default();
     for (d, many) in [(1, 5), (2, 121), (3, 2801)] {
         for number in 0..many {
-            let view = views::spelt(alloc, number, d, 4)?;
+            let view = views::spelt(number, d, 4);
             tally = compare(out, tally, d, &view)?;
         }
     }
@@ -25,7 +24,7 @@ fn every_view(out: &mut impl Write, alloc: Global) -> io::Result<Tally> {
 }
 
 // 4,000 drawn views of 0 to 7 rows over 1 to 5 values.
-fn drawn_views(out: &mut impl Write, alloc: Global) -> io::Result<Tally> {
+fn drawn_views(out: &mut impl Write) -> io::Result<Tally> {
     let mut tally = Tally::default();
     let mut number: u64 = 20_240_229;
     for _ in 0..4000 {
@@ -33,7 +32,7 @@ fn drawn_views(out: &mut impl Write, alloc: Global) -> io::Result<Tally> {
         number = views::stir(shape);
         let d = 1 + (shape / 256 % 5) as usize;
         let most = (shape / 65536 % 8) as usize;
-        let view = views::spelt(alloc, number, d, most)?;
+        let view = views::spelt(number, d, most);
         tally = compare(out, tally, d, &view)?;
     }
     Ok(tally)
@@ -46,8 +45,7 @@ fn report(out: &mut impl Write, tally: Tally) -> io::Result<()> {
 }
 
 fn main(rt: HostRuntime) -> io::Result<()> {
-    let alloc = rt.alloc();
-    let mut out = BufWriter::new(alloc, io::writer(&rt))?;
+    let mut out = BufWriter::new(rt.alloc(), io::writer(&rt))?;
     write!(
         out,
         "DISTINCT against a second one, written from the definitions. On each view are compared
@@ -56,10 +54,10 @@ fn main(rt: HostRuntime) -> io::Result<()> {
 - the family of the rows kept, with the view's.
 All views of 0 to 4 rows over 1 to 3 values: "
     )?;
-    let every = every_view(&mut out, alloc)?;
+    let every = every_view(&mut out)?;
     report(&mut out, every)?;
     write!(out, "Drawn views of 0 to 7 rows over 1 to 5 values: ")?;
-    let drawn = drawn_views(&mut out, alloc)?;
+    let drawn = drawn_views(&mut out)?;
     report(&mut out, drawn)?;
     out.flush()
 }

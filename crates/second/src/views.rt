@@ -1,7 +1,10 @@
 // Small views to compare on, by number.
 ghost use Rattle.std.specs.Prelude.{◌<◌};
 
-use std::alloc::{AllocError, Global};
+use arrayvec::ArrayVec;
+
+// The longest view.
+pub const MOST: usize = 7;
 
 // How many rows a column of d values can have, for d from 1 to 5: the non-empty sets.
 fn row_kinds(d: usize) -> u64
@@ -18,19 +21,18 @@ fn row_kinds(d: usize) -> u64
 
 // The view of a number: its digits are the rows, written with as many digits as there are kinds of rows and with no zero, so that each number has
 // its own view, the longer ones after all shorter ones. Where it has more digits, the first `most` are taken.
-pub fn spelt(alloc: Global, number: u64, d: usize, most: usize) -> Result<Vec<u64>, AllocError> {
+pub fn spelt(number: u64, d: usize, most: usize) -> ArrayVec<u64, MOST> {
     let kinds = row_kinds(d);
-    let mut view = Vec::new(alloc);
+    let mut view = ArrayVec::new();
     let mut left = number;
     for _ in 0..most {
-        if left == 0 {
+        // Numbers count round and round through the kinds of rows.
+        if left == 0 || view.try_push(1 + (left - 1) % kinds).is_err() {
             break;
         }
-        // Numbers count round and round through the kinds of rows.
-        view.push(1 + (left - 1) % kinds)?;
         left = (left - 1) / kinds;
     }
-    Ok(view)
+    view
 }
 
 // The next number of a fixed sequence that looks random: Marsaglia's xorshift with 13, 7 and 17.

@@ -22,10 +22,10 @@ pub struct Score {
 
 // How the class stands: its sheet, the table that is lent, the neighbour while she has questions, and the score.
 #[derive(Drop)]
-struct Class {
+struct Class<'a> {
     sheet: Sheet,
     table: Table,
-    neighbour: Option<Neighbour>,
+    neighbour: Option<Neighbour<'a>>,
     score: Score,
 }
 
@@ -45,7 +45,7 @@ fn announce(out: &mut impl Write, turn: Turn) -> io::Result<()> {
     write!(out, ".")
 }
 
-impl Class {
+impl<'a> Class<'a> {
     // A turn that is played once.
     fn play_once(&mut self, out: &mut impl Write, turn: Turn) -> io::Result<()> {
         let outcome = Trial::new(&self.table, self.sheet, turn).at_every_door();
@@ -96,12 +96,10 @@ impl Class {
         writeln!(out)
     }
 
-    fn hear(&mut self, out: &mut impl Write, alloc: Global, line: Line) -> io::Result<()> {
+    fn hear(&mut self, out: &mut impl Write, line: Line<'a>) -> io::Result<()> {
         match line {
-            Line::Table(text) => self.table = Table::read(alloc, text)?,
-            Line::Neighbour(text, after) => {
-                self.neighbour = Some(Neighbour::read(alloc, text, after)?);
-            }
+            Line::Table(text) => self.table = Table::read(text),
+            Line::Neighbour(text, after) => self.neighbour = Some(Neighbour::read(text, after)),
             Line::Question(_) => {}
             Line::NoQuestions => self.neighbour = None,
             Line::Words(text) => self.read_out(out, text)?,
@@ -115,10 +113,7 @@ pub fn play(out: &mut impl Write, rt: &impl Input, alloc: Global) -> io::Result<
     let script = show::script(rt, alloc)?;
     let mut class = Class {
         sheet: Sheet::fresh(0, 0, 0),
-        table: Table {
-            rows: Vec::new(alloc),
-            d: 0,
-        },
+        table: Table::read(b""),
         neighbour: None,
         score: Score {
             told: Tally::default(),
@@ -126,7 +121,7 @@ pub fn play(out: &mut impl Write, rt: &impl Input, alloc: Global) -> io::Result<
         },
     };
     for line in Lines::of(&script) {
-        class.hear(out, alloc, line)?;
+        class.hear(out, line)?;
     }
     Ok(class.score)
 }

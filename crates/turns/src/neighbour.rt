@@ -5,36 +5,41 @@ use crate::trial::Trial;
 use crate::turn::Turn;
 use sheet::Sheet;
 use show::Tally;
-use std::alloc::{AllocError, Global};
 use std::io;
 use std::io::Write;
 
+// Her table, and the lines after it, of which those that are questions are her turns. (They are read again each time she asks: kept as turns, they
+// would take sixty times the room of the script.)
 #[derive(Drop)]
-pub struct Neighbour {
+pub struct Neighbour<'a> {
     table: Table,
-    questions: Vec<Turn>,
+    after: Lines<'a>,
 }
 
-impl Neighbour {
-    // The neighbour whose table a line has: the lines after it, while they are questions, are her turns.
-    pub fn read(alloc: Global, line: &[u8], after: Lines) -> Result<Neighbour, AllocError> {
-        let table = Table::read(alloc, line)?;
-        let mut questions = Vec::new(alloc);
-        for line in after {
-            let Line::Question(text) = line else {
-                break;
-            };
-            questions.push(Turn::read(text))?;
+impl<'a> Neighbour<'a> {
+    // The neighbour whose table a line has.
+    pub fn read(line: &[u8], after: Lines<'a>) -> Neighbour<'a> {
+        Neighbour {
+            table: Table::read(line),
+            after,
         }
-        Ok(Neighbour { table, questions })
     }
 
     // She asks some, and each is told what it must be.
     pub fn is_told_the_same(&self, sheet: Sheet) -> bool {
-        !self.questions.is_empty()
-            && self.questions.iter().all(|turn| Trial::new(&self.table, sheet, *turn)
+        let mut right = false;
+        for line in self.after {
+            let Line::Question(text) = line else {
+                break;
+            };
+            right = Trial::new(&self.table, sheet, Turn::read(text))
                 .at_every_door()
-                .is_ok())
+                .is_ok();
+            if !right {
+                break;
+            }
+        }
+        right
     }
 }
 
