@@ -66,7 +66,7 @@ impl<'a> Class<'a> {
     // The neighbour looks, once she has questions.
     fn look(&mut self) {
         if let Some(neighbour) = &self.neighbour {
-            let same = neighbour.is_told_the_same(self.sheet);
+            let same = neighbour.is_told_the_same(&self.sheet);
             self.score.looks = self.score.looks.count(same);
         }
     }

@@ -9,7 +9,7 @@ use std::io;
 use std::io::Write;
 
 // Her table, and the lines after it, of which those that are questions are her turns. (They are read again each time she asks: kept as turns, they
-// would take sixty times the room of the script.)
+// would take up to sixty times the room of the script.)
 #[derive(Drop)]
 pub struct Neighbour<'a> {
     table: Table,
@@ -25,16 +25,21 @@ impl<'a> Neighbour<'a> {
         }
     }
 
+    // She asks one, and is told what it must be.
+    fn is_told(&self, sheet: &Sheet, turn: Turn) -> bool {
+        Trial::new(&self.table, *sheet, turn)
+            .at_every_door()
+            .is_ok()
+    }
+
     // She asks some, and each is told what it must be.
-    pub fn is_told_the_same(&self, sheet: Sheet) -> bool {
+    pub fn is_told_the_same(&self, sheet: &Sheet) -> bool {
         let mut right = false;
         for line in self.after {
             let Line::Question(text) = line else {
                 break;
             };
-            right = Trial::new(&self.table, sheet, Turn::read(text))
-                .at_every_door()
-                .is_ok();
+            right = self.is_told(sheet, Turn::read(text));
             if !right {
                 break;
             }
