@@ -4,6 +4,7 @@ use crate::table::Table;
 use crate::told::Told;
 use crate::trial::Trial;
 use sheet::Sheet;
+use std::convert::AsSlice;
 use store::Reply;
 
 // What a door hands back.
@@ -40,19 +41,23 @@ pub enum Door {
 
 impl Door {
     // A lesson begins.
-    fn begin(self, table: &Table, desks: usize) -> Handed {
+    fn begin<R: AsSlice<u64>>(self, table: &Table<R>, desks: usize) -> Handed {
         match self {
             Door::ByValue | Door::InPlace => Handed::from(store::begin(
-                &table.rows,
+                table.all_rows(),
                 table.d,
                 desks,
             )),
-            Door::ByNumbers => Handed::from(host::foliokettle_begin(&table.rows, table.d, desks)),
+            Door::ByNumbers => Handed::from(host::foliokettle_begin(
+                table.all_rows(),
+                table.d,
+                desks,
+            )),
         }
     }
 
     // The turn through the door. What is no call can be said by numbers alone, so it goes through that door each time.
-    pub fn play(self, trial: &Trial, list: &mut [usize]) -> Handed {
+    pub fn play<R: AsSlice<u64>>(self, trial: &Trial<R>, list: &mut [usize]) -> Handed {
         let table = trial.table;
         let sheet = trial.sheet;
         let turn = trial.turn;
@@ -61,13 +66,27 @@ impl Door {
         }
         match (self, turn.call()) {
             (Door::ByValue, Some(call)) => {
-                Handed::from(store::desk_call(&table.rows, table.d, sheet, turn.desk, call, list))
+                Handed::from(store::desk_call(
+                    table.all_rows(),
+                    table.d,
+                    sheet,
+                    turn.desk,
+                    call,
+                    list,
+                ))
             }
             (Door::InPlace, Some(call)) => {
-                Handed::from(server::altered(sheet, &table.rows, table.d, turn.desk, call, list))
+                Handed::from(server::altered(
+                    sheet,
+                    table.all_rows(),
+                    table.d,
+                    turn.desk,
+                    call,
+                    list,
+                ))
             }
             (Door::ByNumbers, _) | (_, None) => Handed::from(host::foliokettle_call(
-                &table.rows,
+                table.all_rows(),
                 table.d,
                 sheet,
                 turn.desk,

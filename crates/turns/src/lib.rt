@@ -13,6 +13,8 @@ mod told; // told.rt: what a desk is told, by plain numbers
 mod trial; // trial.rt: one turn through every door, compared with what must be told
 mod turn; // turn.rt: the turn of a line
 mod words; // words.rt: what is told, in words
+#[cfg(test)]
+mod tests; // tests.rt: tables that no script lends
 
 pub use doors::{Door, Handed};
 pub use kind::Kind;

@@ -1,14 +1,21 @@
 // A lent table.
+ghost use Rattle.std.specs.Prelude.{◌≡◌};
+
 use arrayvec::ArrayVec;
 use sheet::Sheet;
 use show::Columns;
+use std::convert::AsSlice;
 
 // One row more than a table may have.
 const ROWS: usize = Sheet::ROWS + 1;
 
+// The rows of a line: of fixed capacity, so that reading them allocates nothing.
+pub type LineRows = ArrayVec<u64, ROWS>;
+
+// Any list of rows may be lent, in a `Vec` or a slice too.
 #[derive(Drop)]
-pub struct Table {
-    pub rows: ArrayVec<u64, ROWS>,
+pub struct Table<R = LineRows> {
+    pub rows: R,
     pub d: usize,
 }
 
@@ -34,5 +41,14 @@ impl Table {
             rows,
             d: d as usize,
         }
+    }
+}
+
+impl<R: AsSlice<u64>> Table<R> {
+    // All rows, however many: what is too long is for the store to refuse.
+    pub fn all_rows(&self) -> &[u64]
+        ensures { result.now ≡ R.items self.now.rows }
+    {
+        self.rows.as_slice()
     }
 }

@@ -3,22 +3,23 @@ use crate::doors::{Door, Handed};
 use crate::kind::Kind;
 use crate::lists;
 use crate::lists::{LENT, PLENTY};
-use crate::table::Table;
+use crate::table::{LineRows, Table};
 use crate::told::Told;
 use crate::turn::Turn;
 use sheet::Sheet;
+use std::convert::AsSlice;
 
 // A turn, and the table and the sheet that it is played on.
-#[derive(Clone, Copy)]
-pub struct Trial<'a> {
-    pub(crate) table: &'a Table,
+#[derive_where(Clone, Copy)]
+pub struct Trial<'a, R = LineRows> {
+    pub(crate) table: &'a Table<R>,
     pub(crate) sheet: Sheet,
     pub(crate) turn: Turn,
 }
 
-impl<'a> Trial<'a> {
+impl<'a, R: AsSlice<u64>> Trial<'a, R> {
     // The sheet is damaged as the turn says. A begin is handed none: where it is refused, a sheet of zeros comes back.
-    pub fn new(table: &'a Table, sheet: Sheet, turn: Turn) -> Trial<'a> {
+    pub fn new(table: &'a Table<R>, sheet: Sheet, turn: Turn) -> Trial<'a, R> {
         let sheet = match (turn.kind, turn.damage) {
             (Kind::Begin, _) => Sheet::fresh(0, 0, 0),
             (_, Some(damage)) => damage.done_to(sheet),
