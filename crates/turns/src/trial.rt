@@ -1,4 +1,6 @@
 // One turn through every door, compared with what must be told.
+ghost use Rattle.std.specs.Prelude.{◌≡◌};
+
 use crate::doors::{Door, Handed};
 use crate::kind::Kind;
 use crate::lists;
@@ -12,14 +14,17 @@ use std::convert::AsSlice;
 // A turn, and the table and the sheet that it is played on.
 #[derive_where(Clone, Copy)]
 pub struct Trial<'a, R = LineRows> {
-    pub(crate) table: &'a Table<R>,
+    pub table: &'a Table<R>,
     pub(crate) sheet: Sheet,
-    pub(crate) turn: Turn,
+    pub turn: Turn,
 }
 
 impl<'a, R: AsSlice<u64>> Trial<'a, R> {
     // The sheet is damaged as the turn says. A begin is handed none: where it is refused, a sheet of zeros comes back.
-    pub fn new(table: &'a Table<R>, sheet: Sheet, turn: Turn) -> Trial<'a, R> {
+    pub fn new(table: &'a Table<R>, sheet: Sheet, turn: Turn) -> Trial<'a, R>
+        ensures lends { result.table.now ≡ table.now }
+        ensures plays { result.turn ≡ turn }
+    {
         let sheet = match (turn.kind, turn.damage) {
             (Kind::Begin, _) => Sheet::fresh(0, 0, 0),
             (_, Some(damage)) => damage.done_to(sheet),
