@@ -4,7 +4,7 @@ use sheet::Sheet;
 use std::test::Fail;
 
 #[test]
-fn every_door_takes_a_table_of_any_length(rt: HostRuntime) -> Result<(), Fail> {
+fn long_tables_go_through_every_door(rt: HostRuntime) -> Result<(), Fail> {
     for (many, refusal, counted) in [(256, 0, 256), (257, 1, 0), (1000, 1, 0)] {
         let mut rows = Vec::new(rt.alloc());
         rows.resize(many, 1)?;
